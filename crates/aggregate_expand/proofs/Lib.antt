@@ -1,0 +1,11 @@
+pub mod AnswerLemmas
+pub mod ChainLemmas
+pub mod FoundLemmas
+pub mod LawLemmas
+pub mod NameLemmas
+pub mod OnlyLemmas
+pub mod PathLemmas
+pub mod PlaceLemmas
+pub mod RankLemmas
+pub mod VisitLemmas
+pub mod WalkLemmas

@@ -1,0 +1,6 @@
+pub mod Chains
+pub mod Leaves
+pub mod Laws
+pub mod LookUps
+pub mod Names
+pub mod Walk

@@ -1,0 +1,26 @@
+//! Entries of the journal.
+use crate::event::{CallerEvent, DriverEvent};
+use crate::reply::{CallerReply, DriverReply};
+
+/// An event with its answer.
+#[derive(Debug, Drop)]
+pub enum What {
+    Driver {
+        event: DriverEvent,
+        reply: DriverReply,
+    },
+    Caller {
+        event: CallerEvent,
+        reply: CallerReply,
+    },
+}
+
+/// One step: who made it, for which line of the session, and what happened.
+#[derive(Debug, Drop)]
+pub struct Entry {
+    /// The driver is 0, callers are 1 to 16.
+    pub actor: u16,
+    /// The line's number, or 0 for the last sweep.
+    pub line: u32,
+    pub what: What,
+}

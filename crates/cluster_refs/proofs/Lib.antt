@@ -1,0 +1,4 @@
+pub mod CallLemmas
+pub mod ListLemmas
+pub mod NameLemmas
+pub mod RetainedLemmas

@@ -1,0 +1,61 @@
+-- The clusters that calls refer to. The configuration keeps a cluster while a call may still use it, also
+-- where no route names it any more (gRFC A31, the references that the config selector takes; gRFC A74).
+use Rattle.std.specs.Prelude.{◌≡◌, ◌⊎◌, ◌↔◌, ℕ, ◌+◌, List, Bool, Option, Some, Contains, sum_by, if◌then◌else◌}
+use Rattle.std.specs.declared.cmp.Ordering.{Ordering}
+use Rattle.std.specs.List.Sorted.{IsStrictlySortedBy}
+use Rattle.std.specs.Map.{lookup, keys_of, values_of}
+use Rattle.std.specs.Ordering.{nat_cmp, is_eq, on}
+use Rattle.xc_base.specs.declared.names.CallId.{CallId}
+use Rattle.cluster_refs.specs.Names.{Name, name_cmp, once, times_in, count_of}
+
+-- the names of each open pin, and the name that each call holds
+pub record References : Type 0 where
+  pub pins : List (CallId × List Name)
+  pub holds : List (CallId × Name)
+
+abbrev pub call_cmp : CallId → CallId → Ordering
+call_cmp = on (λ call. call.0) nat_cmp
+
+abbrev pub is_call : CallId → CallId → Bool
+is_call call other = is_eq (call_cmp call other)
+
+-- the names that the call has pinned, where its pin is open
+abbrev pub pin_of : References → CallId → Option (List Name)
+pin_of refs call = lookup (is_call call) refs.pins
+
+-- the name that the call holds, where it holds one
+abbrev pub hold_of : References → CallId → Option Name
+hold_of refs call = lookup (is_call call) refs.holds
+
+-- this is the call's pin now, and all else is as before
+pub record SetsPin (old new : References) (call : CallId) (pin : Option (List Name)) : Type 0 where
+  pub pins : (other : CallId) → pin_of new other ≡ (if is_call call other then pin else pin_of old other)
+  pub holds : new.holds ≡ old.holds
+
+-- this is what the call holds now, and all else is as before
+pub record SetsHold (old new : References) (call : CallId) (hold : Option Name) : Type 0 where
+  pub holds : (other : CallId) → hold_of new other ≡ (if is_call call other then hold else hold_of old other)
+  pub pins : new.pins ≡ old.pins
+
+-- an open pin has the name
+abbrev pub IsPinned : References → Name → Type 0
+IsPinned refs name = (call : CallId) × (names : List Name) × (pin_of refs call ≡ Some names) × Contains names name
+
+-- a call holds the name
+abbrev pub IsHeld : References → Name → Type 0
+IsHeld refs name = (call : CallId) × (hold_of refs call ≡ Some name)
+
+-- the names with a pin or a hold and no others, in strictly rising order of their bytes
+pub record AreRetained (refs : References) (names : List Name) : Type 0 where
+  pub rising : IsStrictlySortedBy name_cmp names
+  pub members : (name : Name) → Contains names name ↔ (IsPinned refs name ⊎ IsHeld refs name)
+
+-- how often pins and holds have the name
+abbrev pub uses : List (CallId × List Name) → List (CallId × Name) → Name → ℕ
+uses pins holds name = sum_by (times_in name) (values_of pins) + sum_by (once name) (values_of holds)
+
+-- both lists are in the order of the calls, and the counts are those of the pins and the holds
+pub record AreKept (pins : List (CallId × List Name)) (holds : List (CallId × Name)) (counts : List (Name × ℕ)) : Type 0 where
+  pub pins_ordered : IsStrictlySortedBy call_cmp (keys_of pins)
+  pub holds_ordered : IsStrictlySortedBy call_cmp (keys_of holds)
+  pub counted : (name : Name) → count_of counts name ≡ uses pins holds name

@@ -1,0 +1,121 @@
+//! How many references each name has.
+ghost use Rattle.std.specs.Prelude.{◌≡◌, ◌↔◌, ◌<◌, ℕ, List, ◌∷◌, [], map, Contains, OnOk, OnErr, IfOk};
+ghost use Rattle.std.specs.List.Sorted.{IsStrictlySortedBy};
+ghost use Rattle.cluster_refs.specs.Names.{name_cmp, count_of, Raises, Lowers, SameCounts};
+
+use std::alloc::{AllocError, Global};
+use std::collections::BTreeMap;
+use std::marker::Model;
+use xc_base::{List, Memory, Text};
+
+/// Counts above 0 by name, which contracts see as the list of both in the order of the names.
+#[derive(Drop)]
+pub(crate) struct Counts {
+    alloc: Global,
+    counts: BTreeMap<Text, usize>,
+}
+
+impl Model for Counts {
+    ghost use Rattle.std.specs.Prelude.{List, ℕ};
+    ghost use Rattle.cluster_refs.specs.Names.{AllCounted};
+
+    ghost Value = { List (List ℕ × ℕ) };
+
+    ghost view = { λ c. c.counts.entries };
+
+    ghost invariant = { λ c. AllCounted c.counts.entries };
+}
+
+impl Counts {
+    /// No counts. It takes no memory.
+    pub(crate) fn new(alloc: Global) -> Counts
+        ensures { result ≡ [] }
+    {
+        Counts {
+            alloc,
+            counts: BTreeMap::new(alloc),
+        }
+    }
+
+    /// How often the name is counted.
+    pub(crate) fn of(&self, name: &Text) -> usize
+        ensures { result ≡ count_of self.now name.now }
+    {
+        self.counts.get(name).copied().unwrap_or(0)
+    }
+
+    /// Counts the name once more.
+    pub(crate) fn raise(&mut self, name: &Text) -> Result<(), Memory>
+        ensures ok { OnOk result (Raises self.old self.new (name.now ∷ [])) }
+        ensures err { OnErr result (self.new ≡ self.old) }
+    {
+        let count = self.of(name);
+        let more = count.checked_add(1).ok_or(AllocError)?;
+        self.counts.insert(name.clone()?, more)?;
+        Ok(())
+    }
+
+    /// Counts the name once less, where it is counted. It takes no memory.
+    pub(crate) fn lower(&mut self, name: &Text)
+        ensures { Lowers self.old self.new (name.now ∷ []) }
+    {
+        let count = self.of(name);
+        if count > 1 {
+            if let Some(place) = self.counts.get_mut(name) {
+                *place = count - 1;
+            }
+        } else {
+            self.counts.remove(name);
+        }
+    }
+
+    /// Counts the name that is let go once less.
+    pub(crate) fn forget(&mut self, name: Text)
+        ensures { Lowers self.old self.new (name ∷ []) }
+    {
+        self.lower(&name);
+    }
+
+    /// Counts all names once more, or none without memory.
+    pub(crate) fn raise_all(&mut self, names: &[Text]) -> Result<(), Memory>
+        ensures ok { OnOk result (Raises self.old self.new names.now) }
+        ensures err { OnErr result (SameCounts self.old self.new) }
+    {
+        for (i, name) in names.iter().enumerate() {
+            if let Err(fault) = self.raise(name) {
+                self.lower_all(&names[..i]);
+                return Err(fault);
+            }
+        }
+        Ok(())
+    }
+
+    /// Counts all names once less, where they are counted. It takes no memory.
+    pub(crate) fn lower_all(&mut self, names: &[Text])
+        ensures { Lowers self.old self.new names.now }
+    {
+        for name in names {
+            self.lower(name);
+        }
+    }
+
+    /// The names that are counted, in the order of their bytes.
+    pub(crate) fn names(&self) -> Result<List<Text>, Memory>
+        ensures counted { IfOk result (λ names. (name : List ℕ) → Contains names name ↔ (0 < count_of self.now name)) }
+        ensures rising { IfOk result (IsStrictlySortedBy name_cmp) }
+    {
+        let names: Vec<&Text> = self.counts.keys().collect(self.alloc)?;
+        copies(self.alloc, names.as_slice())
+    }
+}
+
+/// A copy of each name.
+fn copies(alloc: Global, names: &[&Text]) -> Result<List<Text>, Memory>
+    ensures { IfOk result (λ copies. copies ≡ map (λ name. name.now) names.now) }
+{
+    let mut copies = List::new(alloc);
+    for name in names {
+        copies.push((*name).clone()?)?;
+    }
+    Ok(copies)
+}

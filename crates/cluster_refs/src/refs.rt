@@ -1,0 +1,133 @@
+//! The pins and holds of calls.
+ghost use Rattle.std.specs.Prelude.{◌≡◌, ◌↔◌, [], None, Some, IfOk, OnOk, OnErr, IsTrue, IsSome, if◌then◌else◌};
+ghost use Rattle.std.specs.Option.{option_copied};
+ghost use Rattle.std.specs.BTreeMap.{insert_entry};
+ghost use Rattle.std.specs.List.Sorted.{IsStrictlySortedBy};
+ghost use Rattle.std.specs.Map.{lookup, keys_of};
+ghost use Rattle.xc_base.specs.declared.names.CallId.{CallId};
+ghost use Rattle.cluster_refs.specs.References.{call_cmp, is_call, pin_of, hold_of, SetsPin, SetsHold, AreRetained};
+
+use crate::counts::Counts;
+use std::alloc::Global;
+use std::collections::BTreeMap;
+use std::marker::Model;
+use xc_base::{CallId, List, Memory, Text};
+
+/// Adds an entry for a call that has none.
+fn insert<V: Drop>(map: &mut BTreeMap<CallId, V>, call: CallId, value: V) -> Result<(), Memory>
+    ensures entries { OnOk result (map.new.entries ≡ insert_entry call_cmp map.old.entries call value) }
+    ensures updates { OnOk result ((other : CallId) → lookup (is_call other) map.new.entries ≡ (if is_call call other then Some value else lookup (is_call other) map.old.entries)) }
+    ensures err { OnErr result (map.new.entries ≡ map.old.entries) }
+    ensures ordered { IsStrictlySortedBy call_cmp (keys_of map.new.entries) }
+{
+    map.insert(call, value)?;
+    Ok(())
+}
+
+/// The names that calls have pinned and those that they hold. Contracts see the two lists, in the order
+/// of the calls.
+#[derive(Drop)]
+pub struct Refs {
+    pins: BTreeMap<CallId, List<Text>>,
+    holds: BTreeMap<CallId, Text>,
+    counts: Counts,
+}
+
+impl Model for Refs {
+    ghost use Rattle.cluster_refs.specs.References.{References, AreKept};
+
+    ghost Value = { References };
+
+    ghost view = { λ r. record { pins = r.pins.entries; holds = r.holds.entries } };
+
+    ghost invariant = { λ r. AreKept r.pins.entries r.holds.entries r.counts };
+}
+
+impl Refs {
+    /// No pins and no holds. It takes no memory.
+    pub fn new(alloc: Global) -> Refs
+        ensures { result ≡ record { pins = []; holds = [] } }
+    {
+        Refs {
+            pins: BTreeMap::new(alloc),
+            holds: BTreeMap::new(alloc),
+            counts: Counts::new(alloc),
+        }
+    }
+
+    /// Opens the call's pin on these names.
+    pub fn pin(&mut self, call: CallId, names: &List<Text>) -> Result<(), Memory>
+        requires { pin_of self.old call ≡ None }
+        ensures ok { OnOk result (SetsPin self.old self.new call (Some names.now)) }
+        ensures err { OnErr result (self.new ≡ self.old) }
+    {
+        let copy = names.clone()?;
+        self.counts.raise_all(names.as_slice())?;
+        match insert(&mut self.pins, call, copy) {
+            Ok(()) => Ok(()),
+            Err(fault) => {
+                self.counts.lower_all(names.as_slice());
+                Err(fault)
+            }
+        }
+    }
+
+    /// The call holds this name.
+    pub fn hold(&mut self, call: CallId, name: &Text) -> Result<(), Memory>
+        requires { hold_of self.old call ≡ None }
+        ensures ok { OnOk result (SetsHold self.old self.new call (Some name.now)) }
+        ensures err { OnErr result (self.new ≡ self.old) }
+    {
+        let copy = name.clone()?;
+        self.counts.raise(name)?;
+        match insert(&mut self.holds, call, copy) {
+            Ok(()) => Ok(()),
+            Err(fault) => {
+                self.counts.lower(name);
+                Err(fault)
+            }
+        }
+    }
+
+    /// Closes the call's pin. It answers whether there was one, and takes no memory.
+    pub fn unpin(&mut self, call: CallId) -> bool
+        ensures had { IsTrue result ↔ IsSome (pin_of self.old call) }
+        ensures gone { SetsPin self.old self.new call None }
+    {
+        match self.pins.remove(&call) {
+            Some(names) => {
+                self.counts.lower_all(names.as_slice());
+                true
+            }
+            None => false,
+        }
+    }
+
+    /// Ends what the call holds. It answers whether it held a name, and takes no memory.
+    pub fn release(&mut self, call: CallId) -> bool
+        ensures had { IsTrue result ↔ IsSome (hold_of self.old call) }
+        ensures gone { SetsHold self.old self.new call None }
+    {
+        match self.holds.remove(&call) {
+            Some(name) => {
+                self.counts.forget(name);
+                true
+            }
+            None => false,
+        }
+    }
+
+    /// The name that the call holds, if it holds one.
+    pub fn held(&self, call: CallId) -> Option<&Text>
+        ensures { option_copied result ≡ hold_of self.now call }
+    {
+        self.holds.get(&call)
+    }
+
+    /// The names with a pin or a hold, in the order of their bytes, each once.
+    pub fn retained(&self) -> Result<List<Text>, Memory>
+        ensures { IfOk result (AreRetained self.now) }
+    {
+        self.counts.names()
+    }
+}

@@ -1,0 +1,6 @@
+pub mod Cut
+pub mod Feeding
+pub mod Framing
+pub mod Head
+pub mod Laws
+pub mod Runs

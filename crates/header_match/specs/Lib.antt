@@ -1,0 +1,4 @@
+pub mod Headers
+pub mod Meets
+pub mod Refused
+pub mod Texts

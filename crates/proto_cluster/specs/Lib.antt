@@ -1,0 +1,5 @@
+pub mod Aggregate
+pub mod Assignment
+pub mod Cluster
+pub mod Endpoint
+pub mod Locality

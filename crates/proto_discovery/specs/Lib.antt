@@ -1,0 +1,5 @@
+pub mod TypeUrls
+pub mod Any
+pub mod Response
+pub mod Wrapper
+pub mod Request

@@ -1,0 +1,7 @@
+pub mod ConfigSource
+pub mod Fraction
+pub mod HeaderMatcher
+pub mod RouteAction
+pub mod RouteMatch
+pub mod Routes
+pub mod StringMatcher

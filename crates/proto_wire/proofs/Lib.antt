@@ -1,0 +1,13 @@
+pub mod LenLemmas
+pub mod Lists
+pub mod OneofLemmas
+pub mod Runs
+pub mod VarintLemmas
+pub mod FieldLemmas
+pub mod SpellingLemmas
+pub mod TextLemmas
+pub mod Pairs
+pub mod VarintSpelling
+pub mod FieldSpelling
+pub mod ListSpelling
+pub mod WrittenSpelling

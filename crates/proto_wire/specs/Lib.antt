@@ -1,0 +1,8 @@
+pub mod Wire
+pub mod View
+pub mod Values
+pub mod Reading
+pub mod Spelling
+pub mod Oneof
+pub mod Wrappers
+pub mod Spells

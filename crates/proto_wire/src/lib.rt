@@ -1,0 +1,26 @@
+//! The wire form of protobuf messages: bytes are read into a list of fields, the values of a number are
+//! found in that list, and fields are written in their shortest spelling.
+#![tactic(auto)]
+
+pub mod field;
+pub mod laws;
+pub mod nested;
+pub mod oneof;
+pub mod reading;
+pub mod values;
+pub mod varint;
+pub mod wrappers;
+pub mod writing;
+
+pub use field::{Body, Field, Member, WireFault};
+pub use nested::{Message, read_repeated, read_singular};
+pub use oneof::{if_set, read_member};
+pub use reading::fields;
+pub use values::{
+    joined, last_bool, last_bytes, last_int64, last_run, last_text, last_uint, last_uint32,
+    occurring, oneof_of, repeated, texts, unread,
+};
+pub use writing::{put_bytes, put_number, put_text, put_uint};
+
+#[cfg(test)]
+mod tests;

@@ -1,0 +1,4 @@
+pub mod Clusters
+pub mod Domains
+pub mod Ranks
+pub mod Routes

@@ -1,0 +1,3 @@
+pub mod Denominators
+pub mod Fractions
+pub mod Weights

@@ -1,0 +1,40 @@
+//! What a pick chooses from.
+use weight_pick::DropRule;
+use xc_base::{Address, List, Reason};
+
+/// A READY locality: its place in its priority, its weight, and its READY endpoints.
+#[derive(Debug, Drop)]
+pub struct Part {
+    pub locality: u32,
+    pub weight: u32,
+    pub ready: List<Address>,
+}
+
+/// The picker of a priority: its drop rules, which come first, and what is behind them.
+#[derive(Debug, Drop)]
+pub struct Picker {
+    pub drops: List<DropRule>,
+    pub body: PickBody,
+}
+
+/// What is behind the drop rules.
+#[derive(Debug, Drop)]
+pub enum PickBody {
+    /// The READY localities with the sums of their weights.
+    Ready { parts: List<Part>, sums: List<u64> },
+    /// The priority is CONNECTING.
+    Queue,
+    /// The priority fails.
+    Fail(Reason),
+}
+
+/// What a picker chooses.
+#[derive(Clone, Copy, Debug, PartialEq, Eq)]
+pub enum Chosen {
+    /// The drop rule of this number, from 1.
+    Drop(u32),
+    /// The part at this place, from 0.
+    Part(u32),
+    Queue,
+    Fail,
+}

@@ -1,0 +1,9 @@
+pub mod AddressLemmas
+pub mod Ipv4Lemmas
+pub mod Ipv6Lemmas
+pub mod Ipv6Parsed
+pub mod JoinLemmas
+pub mod LowerAddress
+pub mod LowerLemmas
+pub mod NumberLemmas
+pub mod StreamLemmas

@@ -1,0 +1,11 @@
+pub mod Calls
+pub mod History
+pub mod Kept
+pub mod Lawful
+pub mod Names
+pub mod Plain
+pub mod Right
+pub mod Seen
+pub mod Shown
+pub mod Steps
+pub mod Streams

@@ -1,0 +1,35 @@
+//! The value of a Cluster resource.
+use xc_base::{List, Same, Text};
+
+/// A cluster.
+#[derive(Debug, Drop, PartialEq, Eq)]
+pub struct ClusterValue {
+    pub name: Text,
+    pub shape: Shape,
+}
+
+/// What a cluster is.
+#[derive(Debug, Drop, PartialEq, Eq)]
+pub enum Shape {
+    /// The endpoints of an Endpoint resource, which has this name, or the cluster's own where it is
+    /// empty.
+    Eds { service: Text },
+    /// Other clusters, the preferred ones first.
+    Aggregate { clusters: List<Text> },
+}
+
+impl Same for ClusterValue {
+    fn same(&self, other: &ClusterValue) -> bool {
+        self.name.same(&other.name) && self.shape.same(&other.shape)
+    }
+}
+
+impl Same for Shape {
+    fn same(&self, other: &Shape) -> bool {
+        match (self, other) {
+            (Shape::Eds { service: a }, Shape::Eds { service: b }) => a.same(b),
+            (Shape::Aggregate { clusters: a }, Shape::Aggregate { clusters: b }) => a.same(b),
+            _ => false,
+        }
+    }
+}

@@ -1,0 +1,135 @@
+//! The configuration of a channel: its routes, and its clusters with their endpoints.
+ghost use Rattle.std.specs.Prelude.{◌≡◌, ◌<◌, ◌^◌, ◌↔◌, ◌≢◌, Some, length, slice_get, option_map, bytes_eq, position, All, IsNone, IfSome};
+ghost use Rattle.xds_config.specs.Configs.{cluster_place};
+
+use crate::endpoint_values::EndpointValue;
+use crate::route_values::RouteValue;
+use xc_base::{List, Memory, Reason, Same, Shared, Text};
+
+/// The routes of a channel: the listener's name, a route configuration, and the place of the virtual
+/// host in it, from 0.
+#[derive(Debug, Drop, PartialEq, Eq)]
+pub struct Front {
+    pub listener: Text,
+    pub routes: Shared<RouteValue>,
+    pub host: u32,
+}
+
+/// A cluster that isn't an aggregate, with its endpoints or the reason why it has none.
+#[derive(Debug, Drop, PartialEq, Eq)]
+pub struct Leaf {
+    pub name: Text,
+    pub state: Result<Shared<EndpointValue>, Reason>,
+}
+
+/// What a cluster stands for: itself, or where it is an aggregate the leaves below it, the preferred
+/// ones first.
+#[derive(Debug, Drop, PartialEq, Eq)]
+pub struct Leaves {
+    pub aggregate: bool,
+    pub leaves: List<Leaf>,
+}
+
+/// A cluster that calls may be sent to, or the reason why they fail.
+#[derive(Debug, Drop, PartialEq, Eq)]
+pub struct ClusterEntry {
+    pub name: Text,
+    pub state: Result<Shared<Leaves>, Reason>,
+}
+
+/// A whole configuration: the front, or the reason why calls have no routes, and the clusters in the
+/// order of their names' bytes.
+#[derive(Debug, Drop, PartialEq, Eq)]
+pub struct Config {
+    pub front: Result<Front, Reason>,
+    pub clusters: List<Shared<ClusterEntry>>,
+}
+
+impl Config {
+    /// The place of the cluster of a name, from 0. None exactly where no cluster has the name. It takes
+    /// no memory.
+    pub fn find(&self, name: &Text) -> Option<u32>
+        requires few { length self.now.clusters < 2 ^ 31 }
+        ensures place { result ≡ cluster_place self.now name.now }
+        ensures found { IfSome result (λ i. option_map (λ c. c.name) (slice_get self.now.clusters i) ≡ Some name.now) }
+        ensures none { IsNone result ↔ All (λ c. c.name ≢ name.now) self.now.clusters }
+    {
+        match place_of(self.clusters.as_slice(), name) {
+            Some(place) => Some(place as u32),
+            None => None,
+        }
+    }
+}
+
+fn place_of(clusters: &[Shared<ClusterEntry>], name: &Text) -> Option<usize>
+    ensures { result ≡ position (λ c. bytes_eq c.name name.now) clusters.now }
+{
+    clusters
+        .iter()
+        .position(|cluster| cluster.get().name.same(name))
+}
+
+impl Clone for Front {
+    ghost is_clone = { λ f g. g ≡ f };
+
+    fn clone(&self) -> Result<Front, Memory> {
+        Ok(Front {
+            listener: self.listener.clone()?,
+            routes: self.routes.share()?,
+            host: self.host,
+        })
+    }
+}
+
+impl Clone for Leaf {
+    ghost is_clone = { λ l m. m ≡ l };
+
+    fn clone(&self) -> Result<Leaf, Memory> {
+        let name = self.name.clone()?;
+        match &self.state {
+            Ok(value) => {
+                let value = value.share()?;
+                Ok(Leaf {
+                    name,
+                    state: Ok(value),
+                })
+            }
+            Err(reason) => Ok(Leaf {
+                name,
+                state: Err(*reason),
+            }),
+        }
+    }
+}
+
+impl Same for Front {
+    fn same(&self, other: &Front) -> bool {
+        self.host == other.host
+            && self.listener.same(&other.listener)
+            && self.routes.same(&other.routes)
+    }
+}
+
+impl Same for Leaf {
+    fn same(&self, other: &Leaf) -> bool {
+        self.name.same(&other.name) && self.state.same(&other.state)
+    }
+}
+
+impl Same for Leaves {
+    fn same(&self, other: &Leaves) -> bool {
+        self.aggregate == other.aggregate && self.leaves.same(&other.leaves)
+    }
+}
+
+impl Same for ClusterEntry {
+    fn same(&self, other: &ClusterEntry) -> bool {
+        self.name.same(&other.name) && self.state.same(&other.state)
+    }
+}
+
+impl Same for Config {
+    fn same(&self, other: &Config) -> bool {
+        self.front.same(&other.front) && self.clusters.same(&other.clusters)
+    }
+}
