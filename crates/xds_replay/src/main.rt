@@ -1,0 +1,67 @@
+//! Replays a session from standard input, and reports it on standard output.
+#![tactic(auto)]
+
+pub mod caller_lines;
+pub mod driver_lines;
+pub mod forms;
+pub mod law;
+pub mod lines;
+pub mod play;
+pub mod program;
+pub mod reader;
+pub mod report;
+pub mod session;
+#[cfg(test)]
+mod tests;
+pub mod texts;
+
+use program::{Status, run};
+use std::env;
+use std::process::ExitCode;
+use std::rt::Env;
+use xc_base::{StdSink, StdSource};
+
+fn words<R: Env + AllocGlobal>(rt: &R) -> Option<Vec<String>> {
+    let mut args = env::args(rt).ok()?;
+    let _program = args.next();
+    args.collect(rt.alloc()).ok()
+}
+
+// The status that the process ends with.
+fn number(status: Status) -> u8 {
+    match status {
+        Status::Done => 0,
+        Status::Words => 2,
+        Status::Session { .. } => 3,
+        Status::ReadFault => 4,
+        Status::WriteFault => 5,
+        Status::Memory => 6,
+    }
+}
+
+// Tells on standard error why there is no report.
+fn tell<R: Eprint>(rt: &R, status: Status) {
+    let _ = match status {
+        Status::Done => Ok(()),
+        Status::Words => eprintln!(rt; "usage: xds_replay run | gen N | load N"),
+        Status::Session { line, cause } => {
+            eprintln!(rt; "xds_replay: session line {line}: {cause}")
+        }
+        Status::ReadFault => eprintln!(rt; "xds_replay: read fault"),
+        Status::WriteFault => eprintln!(rt; "xds_replay: write fault"),
+        Status::Memory => eprintln!(rt; "xds_replay: out of memory"),
+    };
+}
+
+fn main(rt: HostRuntime) -> ExitCode {
+    let status = match words(&rt) {
+        Some(words) => {
+            let mut source = StdSource::new(rt.stdin());
+            let mut sink = StdSink::new(rt.stdout());
+            run(rt.alloc(), &words, &mut source, &mut sink)
+        }
+        None => Status::Words,
+    };
+    tell(&rt, status);
+    ExitCode::from(number(status))
+}
