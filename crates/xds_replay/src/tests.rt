@@ -67,10 +67,10 @@ end 1 0\n\
 const FIRST_PATH_REPORT: &str = "\
 xds-report 1\n\
 1 5 d open - ok wait listener:svc\n\
-  req - listener v= n= names=svc node\n\
+\x20 req - listener v= n= names=svc node\n\
 2 6 d response - ack listener whole\n\
-  req - listener v=1 n=n1 names=svc\n\
-  snap 1 front=svc,r,0\n\
+\x20 req - listener v=1 n=n1 names=svc\n\
+\x20 snap 1 front=svc,r,0\n\
 3 6 d bytes - ok whole\n\
 4 7 c1 pin 0 at 1\n\
 5 7 c1 hold 0 to 0 web at 1\n\
@@ -82,10 +82,10 @@ end 7 1\n\
 const NO_ROUTE_REPORT: &str = "\
 xds-report 1\n\
 1 5 d open - ok wait listener:svc\n\
-  req - listener v= n= names=svc node\n\
+\x20 req - listener v= n= names=svc node\n\
 2 6 d response - ack listener whole\n\
-  req - listener v=1 n=n1 names=svc\n\
-  snap 1 front=svc,r,0\n\
+\x20 req - listener v=1 n=n1 names=svc\n\
+\x20 snap 1 front=svc,r,0\n\
 3 6 d bytes - ok whole\n\
 4 7 c1 pin 0 at 1\n\
 5 7 c1 hold 0 noroute at 1\n\
@@ -97,13 +97,14 @@ end 7 1\n\
 // The sink's first two writes in a run of the four lines.
 const TWO_LINES: &str = "xds-report 1\n1 0 d sweep ok wait listener:svc\n";
 
+#[derive(Drop)]
 struct Ended {
     status: Status,
     report: Vec<u8>,
 }
 
 // A run whose source and sink fail at these calls.
-fn ended(
+fn run_with(
     alloc: Global,
     session: &str,
     source_fails: Vec<u64>,
@@ -121,7 +122,7 @@ fn ended(
 }
 
 fn played(alloc: Global, session: &str) -> Result<Ended, Fail> {
-    ended(alloc, session, Vec::new(alloc), Vec::new(alloc))
+    run_with(alloc, session, Vec::new(alloc), Vec::new(alloc))
 }
 
 #[test]
@@ -160,7 +161,7 @@ fn a_line_that_is_not_played_is_named(rt: HostRuntime) -> Result<(), Fail> {
 #[test]
 fn a_source_that_fails_at_once_is_a_read_fault(rt: HostRuntime) -> Result<(), Fail> {
     let alloc = rt.alloc();
-    let ended = ended(alloc, FOUR_LINES, vec![in alloc; 0]?, Vec::new(alloc))?;
+    let ended = run_with(alloc, FOUR_LINES, vec![in alloc; 0]?, Vec::new(alloc))?;
     assert_eq!(rt; ended.status, Status::ReadFault);
     assert!(rt; ended.report.is_empty());
     Ok(())
@@ -169,7 +170,7 @@ fn a_source_that_fails_at_once_is_a_read_fault(rt: HostRuntime) -> Result<(), Fa
 #[test]
 fn a_sink_that_fails_at_its_third_write_has_two_lines(rt: HostRuntime) -> Result<(), Fail> {
     let alloc = rt.alloc();
-    let ended = ended(alloc, FOUR_LINES, Vec::new(alloc), vec![in alloc; 2]?)?;
+    let ended = run_with(alloc, FOUR_LINES, Vec::new(alloc), vec![in alloc; 2]?)?;
     assert_eq!(rt; ended.status, Status::WriteFault);
     assert_eq!(rt; ended.report.as_slice(), TWO_LINES.as_bytes());
     Ok(())
