@@ -1,0 +1,66 @@
+#!/usr/bin/env python3
+"""bench/calls.py [--runs N] [--most RATIO]: the time of sessions of 10,000 and 100,000 lines of calls, and their ratio.
+
+A session has at most 65,536 call numbers, and each may start once. So what is counted are the lines of the
+caller: half of them start a call, and half commit one. The stream is opened, one response publishes a
+snapshot with two routes, and then each call is started and committed. The time is the least of N runs of
+the whole program, from its start to the end of its report. With --most the status is 1 where the ratio
+is above it.
+"""
+
+import argparse
+import pathlib
+import subprocess
+import sys
+import tempfile
+import time
+
+HOME = pathlib.Path(__file__).resolve().parent.parent
+sys.path.insert(0, str(HOME / "tools"))
+import wire  # noqa: E402
+
+
+def session(lines):
+    """A session with so many lines of its caller."""
+    rules = [("path", "/shop.Cart/Add", "cart"), ("prefix", "/shop.", "shop")]
+    payload = wire.plain_response("1", "n1", "svc", "r", rules)
+    out = ["xds-session 1", 'boot {"xds_servers":[{"server_uri":"ms:1"}],"node":{"id":"n"}}',
+           "target xds:///svc", "callers 1", "d open -", "d data - " + wire.frame(payload).hex()]
+    for call in range(lines // 2):
+        path = "/shop.Stock/List" if call % 2 else "/shop.Cart/Add"
+        out += [f"c 1 start {call} {call} {path}", f"c 1 commit {call}"]
+    return "".join(line + "\n" for line in out)
+
+
+def seconds(program, text, runs):
+    """The least time of so many runs."""
+    best = None
+    with tempfile.NamedTemporaryFile("w", suffix=".session") as file:
+        file.write(text)
+        file.flush()
+        for _ in range(runs):
+            with open(file.name, "rb") as given:
+                start = time.perf_counter()
+                subprocess.run([program, "run"], stdin=given, stdout=subprocess.DEVNULL, check=True)
+                took = time.perf_counter() - start
+            best = took if best is None else min(best, took)
+    return best
+
+
+def main():
+    parser = argparse.ArgumentParser(description="The time of 10,000 and of 100,000 lines of calls.")
+    parser.add_argument("--runs", type=int, default=5, help="how often each session is played")
+    parser.add_argument("--most", type=float, help="the greatest ratio that is allowed")
+    given = parser.parse_args()
+    program = subprocess.run([HOME / "tools/built.sh"], stdout=subprocess.PIPE, check=True, text=True).stdout.strip()
+    times = {}
+    for lines in (10_000, 100_000):
+        times[lines] = seconds(program, session(lines), given.runs)
+        print(f"{lines:,} lines of calls: {times[lines] * 1000:.1f} ms")
+    ratio = times[100_000] / times[10_000]
+    print(f"ratio: {ratio:.1f}")
+    return given.most is not None and ratio > given.most
+
+
+if __name__ == "__main__":
+    sys.exit(main())

@@ -1,0 +1,12 @@
+#!/usr/bin/env bash
+# Compares the program with a reference program over 500 random sessions of the first path: the reports,
+# standard error and the statuses are byte for byte the same. XDS_REFERENCE names the folder of the reference.
+set -eu
+cd "$(dirname "$0")/.."
+reference=${XDS_REFERENCE:-../shared/oracle}
+if [ ! -e "$reference/compare.py" ]; then
+  echo "compare_reference: skipped, since there is no reference program at $reference"
+  exit
+fi
+program=$(tools/built.sh)
+echo "compare_reference: $(PYTHONDONTWRITEBYTECODE=1 python3 "$reference/compare.py" "$program" 500 1)"

@@ -1,0 +1,11 @@
+#!/usr/bin/env bash
+# Compares the reading of responses and the writing of requests with protoc (Debian's protobuf-compiler)
+# over 50 random messages.
+set -eu
+cd "$(dirname "$0")/.."
+if ! command -v protoc >/dev/null; then
+  echo "read_protobuf: skipped, since protoc isn't installed"
+  exit
+fi
+show=$(tools/built.sh show_discovery)
+python3 tests/read_protobuf.py "$show"

@@ -1,0 +1,67 @@
+//! Why nothing is shown.
+use hex::FromHexError;
+use proto_wire::WireFault;
+use std::alloc::{AllocError, AllocFailed};
+use xc_base::{Failed, ReadFault};
+
+/// Why a run gave no answer.
+#[derive(Clone, Copy, Debug, PartialEq, Eq)]
+pub enum Fault {
+    /// The words aren't the one word `response` or `request`.
+    Words,
+    /// The input failed.
+    Read,
+    /// The output failed.
+    Write,
+    /// The bytes aren't a response, from this place on.
+    Unreadable(u32),
+    /// The input isn't a description of a request.
+    Description,
+    /// There was no memory.
+    Memory,
+}
+
+impl From<AllocError> for Fault {
+    fn from(_: AllocError) -> Self {
+        Fault::Memory
+    }
+}
+
+impl<T: Drop> From<AllocFailed<T>> for Fault {
+    fn from(_: AllocFailed<T>) -> Self {
+        Fault::Memory
+    }
+}
+
+impl From<ReadFault> for Fault {
+    fn from(fault: ReadFault) -> Self {
+        match fault {
+            ReadFault::Failed => Fault::Read,
+            ReadFault::Memory => Fault::Memory,
+        }
+    }
+}
+
+impl From<Failed> for Fault {
+    fn from(_: Failed) -> Self {
+        Fault::Write
+    }
+}
+
+impl From<WireFault> for Fault {
+    fn from(fault: WireFault) -> Self {
+        match fault {
+            WireFault::At(at) => Fault::Unreadable(at),
+            WireFault::Memory => Fault::Memory,
+        }
+    }
+}
+
+impl From<FromHexError> for Fault {
+    fn from(fault: FromHexError) -> Self {
+        match fault {
+            FromHexError::OutOfMemory => Fault::Memory,
+            _ => Fault::Description,
+        }
+    }
+}
