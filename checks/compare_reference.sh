@@ -1,7 +1,7 @@
 #!/usr/bin/env bash
 # Compares the program with a reference program over 500 random sessions of the first path: the reports,
 # standard error and the statuses are byte for byte the same. XDS_REFERENCE names the folder of the reference.
-set -eu
+set -euo pipefail
 cd "$(dirname "$0")/.."
 reference=${XDS_REFERENCE:-../shared/oracle}
 if [ ! -e "$reference/compare.py" ]; then
@@ -9,4 +9,5 @@ if [ ! -e "$reference/compare.py" ]; then
   exit
 fi
 program=$(tools/built.sh)
-echo "compare_reference: $(PYTHONDONTWRITEBYTECODE=1 python3 "$reference/compare.py" "$program" 500 1)"
+# (1 is what the reference calls the first path.)
+PYTHONDONTWRITEBYTECODE=1 python3 "$reference/compare.py" "$program" 500 1 | sed 's/^/compare_reference: /'
