@@ -12,7 +12,7 @@ use Rattle.call_journal.specs.declared.reply.CallerReply.{CallerReply}
 use Rattle.call_journal.specs.declared.reply.CallerReply.TheVariants as reply
 use Rattle.xds_book.specs.Calls.{hold_reply, is_led, pin_reply, pinned}
 use Rattle.xds_book.specs.Steps.{hold_on, of_caller, started_on}
-use Rattle.std.proofs.Common.{◌≡◌, ◌≢◌, ◌≤◌, ◌<◌, ℕ, suc, ◌+◌, ◌-◌, subst, reverse, get_or, eqb, cond, Bool, true, false, List, [], ◌∷◌, length, Option, Some, None, Result, Ok, Err, refl, sym, ap, ◌∙◌, arith, inl, inr, ◌⊎◌}
+use Rattle.std.proofs.Common.{◌≡◌, ◌≤◌, ◌<◌, ℕ, suc, ◌+◌, ◌-◌, subst, reverse, get_or, eqb, cond, Bool, true, false, List, [], ◌∷◌, length, Option, Some, None, Result, Ok, Err, refl, sym, ap, ◌∙◌, arith, inr}
 use Rattle.std.specs.Prelude.{option_map, is_some, IfSome, IfOk}
 use Rattle.std.specs.BTreeSet.{BTreeSet, contains}
 use Rattle.xc_base.specs.declared.names.Key.{Key}
@@ -22,20 +22,17 @@ use Rattle.xds_config.specs.declared.config.Front.{Front}
 use Rattle.xds_config.specs.declared.config.Config.{Config}
 use Rattle.cluster_tree.specs.declared.snapshot.Snapshot.{Snapshot}
 use Rattle.call_journal.specs.declared.entry.Entry.{Entry}
-use Rattle.call_journal.specs.declared.entry.What.{What}
-use Rattle.call_journal.specs.declared.entry.What.TheVariants.{Driver, Caller}
+use Rattle.call_journal.specs.declared.entry.What.TheVariants.{Driver}
 use Rattle.call_journal.specs.declared.event.DriverEvent.{DriverEvent}
-use Rattle.call_journal.specs.declared.reply.DriverReply.{DriverReply}
 use Rattle.call_journal.specs.declared.reply.Sent.{Sent}
 use Rattle.ads_stream.specs.declared.verdict.Verdict.{Verdict}
 use Rattle.xds_book.specs.declared.plain.Plain.{Plain}
 use Rattle.xds_book.specs.declared.stream.Stream.{Stream}
-use Rattle.xds_book.specs.Streams.{due, is_up, taken, verdict_of}
-use Rattle.xds_book.specs.History.{IsPublished, config, config_of, latest_of, last_config, last_number, missing_of, routes, snapshots, with_snapshot}
+use Rattle.xds_book.specs.Streams.{due, taken, verdict_of}
+use Rattle.xds_book.specs.History.{IsPublished, config_of, latest_of, last_config, last_number, missing_of, routes, snapshots, with_snapshot}
 use Rattle.xds_book.specs.Kept.{IsKept, Publishes, asking, moved, published_with, stream_of}
 use Rattle.xds_book.specs.Lawful.{IsLawfulSimple}
 use Rattle.xds_config.specs.Configs.{IsLawfulFront}
-use Rattle.xds_book.specs.Right.{Right}
 
 -- ---- routes and their configuration
 

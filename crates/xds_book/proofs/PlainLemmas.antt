@@ -1,6 +1,6 @@
 -- Simple routes, one after another.
-use Rattle.std.proofs.Common.{◌≡◌, ◌≤◌, ◌<◌, ℕ, zero, suc, ◌+◌, ◌-◌, ◌^◌, leb, subst, List, [], ◌∷◌, ◌++◌, length, drop, take, reverse, Bool, true, false, not, cond, ◌||◌, get_or, Option, Some, None, refl, sym, ap, ◌∙◌, append_assoc, append-nil, arith}
-use Rattle.std.specs.Prelude.{All, AllPairs, option_map, option_and_then}
+use Rattle.std.proofs.Common.{◌≡◌, ◌≤◌, ◌<◌, ℕ, zero, suc, ◌+◌, ◌-◌, leb, subst, List, [], ◌∷◌, ◌++◌, length, drop, take, reverse, Bool, true, false, cond, ◌||◌, get_or, Option, Some, None, refl, sym, ap, ◌∙◌, append_assoc, append-nil, arith}
+use Rattle.std.specs.Prelude.{All, AllPairs, option_map}
 use Rattle.std.proofs.lemmas.List.{drop_more, drop_all, take_more, reverse-append}
 use Rattle.std.specs.Prelude.{bytes_eq, Contains}
 use Rattle.std.proofs.lemmas.Bool.Decides.{nat_tests}

@@ -1,7 +1,6 @@
 -- What callers are answered: pins, holds and commits (this project's own; gRFC A31's cluster selection).
-use Rattle.std.specs.Prelude.{◌≡◌, ℕ, List, [], ◌∷◌, Bool, true, false, ◌==◌, if◌then◌else◌, Option, Some, None, option_and_then, find}
+use Rattle.std.specs.Prelude.{ℕ, List, [], ◌∷◌, Bool, true, false, ◌==◌, if◌then◌else◌, Option, Some, None, option_and_then, find}
 use Rattle.xc_base.specs.declared.call.Call.{Call}
-use Rattle.xc_base.specs.declared.names.CallId.{CallId}
 use Rattle.cluster_tree.specs.declared.snapshot.Snapshot.{Snapshot}
 use Rattle.route_match.specs.declared.answer.RouteAnswer.{RouteAnswer}
 use Rattle.route_match.specs.declared.answer.RouteAnswer.TheVariants.{To, NoRoute, NoAction, NoFront}

@@ -1,19 +1,16 @@
 -- The configuration that a history leads to, and its snapshots, the newest first (gRFC A27, A74). Where each response is
 -- plain, the one key that is reached is the listener's, and the configuration is the front alone.
-use Rattle.std.specs.Prelude.{◌≡◌, ◌≢◌, ℕ, ◌+◌, List, [], ◌∷◌, Option, Some, None, option_map, if◌then◌else◌, is_some, ◌⊎◌, Result, Ok}
+use Rattle.std.specs.Prelude.{◌≡◌, ◌≢◌, ℕ, ◌+◌, List, [], ◌∷◌, Option, Some, None, option_map, ◌⊎◌, Ok}
 use Rattle.std.specs.Option.{option_map_or}
-use Rattle.xc_base.specs.declared.names.Authority.{Authority}
 use Rattle.xc_base.specs.declared.names.Kind.TheVariants.{Listener}
 use Rattle.xc_base.specs.declared.names.Home.TheVariants.{At}
 use Rattle.xc_base.specs.declared.names.Key.{Key}
 use Rattle.xds_config.specs.declared.route_values.RouteValue.{RouteValue}
-use Rattle.xds_config.specs.declared.config.Front.{Front}
 use Rattle.xds_config.specs.declared.config.Config.{Config}
 use Rattle.cluster_tree.specs.declared.snapshot.Snapshot.{Snapshot}
 use Rattle.call_journal.specs.declared.entry.Entry.{Entry}
 use Rattle.call_journal.specs.declared.entry.What.{What}
 use Rattle.call_journal.specs.declared.entry.What.TheVariants.{Driver, Caller}
-use Rattle.xds_book.specs.declared.plain.Plain.{Plain}
 use Rattle.xds_book.specs.Streams.{accepted}
 
 -- the routes of the last accepted response; before one came the listener is awaited

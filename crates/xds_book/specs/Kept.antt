@@ -1,5 +1,5 @@
 -- What a Book keeps of its history.
-use Rattle.std.specs.Prelude.{◌≡◌, ◌≢◌, option_map, ℕ, ◌+◌, ◌≤◌, List, [], ◌∷◌, length, reverse, Bool, not, ◌&&◌, ◌||◌, if◌then◌else◌, Option, Some, None, IfSome}
+use Rattle.std.specs.Prelude.{◌≡◌, ◌≢◌, option_map, ℕ, ◌+◌, ◌≤◌, List, [], ◌∷◌, length, not, ◌&&◌, ◌||◌, if◌then◌else◌, Option, Some, None, IfSome}
 use Rattle.std.specs.Option.{option_map_or}
 use Rattle.std.specs.Ordering.{nat_cmp}
 use Rattle.std.specs.BTreeSet.{BTreeSet, contains}
@@ -10,7 +10,7 @@ use Rattle.call_journal.specs.declared.event.DriverEvent.{DriverEvent}
 use Rattle.call_journal.specs.declared.reply.Sent.{Sent}
 use Rattle.xds_book.specs.declared.plain.Plain.{Plain}
 use Rattle.xds_book.specs.declared.stream.Stream.{Stream}
-use Rattle.xds_book.specs.Streams.{due, is_asked, is_sending, is_up, nonce, parts, up_after, version}
+use Rattle.xds_book.specs.Streams.{is_asked, is_sending, is_up, nonce, parts, up_after, version}
 use Rattle.xds_book.specs.History.{config, config_of, last_config, last_number, routes, snapshots}
 use Rattle.xds_book.specs.Calls.{is_held, pinned}
 use Rattle.xds_book.specs.Lawful.{IsLawfulSimple}

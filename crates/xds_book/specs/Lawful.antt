@@ -1,5 +1,5 @@
 -- What holds of routes that are simple.
-use Rattle.std.specs.Prelude.{◌≡◌, ℕ, ◌<◌, ◌^◌, List, length, All, AllPairs}
+use Rattle.std.specs.Prelude.{◌≡◌, ◌<◌, ◌^◌, List, length, All, AllPairs}
 use Rattle.xds_config.specs.declared.route_values.Route.{Route}
 use Rattle.xds_config.specs.declared.route_values.RouteValue.{RouteValue}
 use Rattle.xds_config.specs.Routes.{IsLawfulRoute, IsLawfulRouteValue}

@@ -1,7 +1,7 @@
 -- Plain responses: those that are played so far (gRFC A27, A28). A plain response has the Listener type and one resource,
 -- which has the target's name and routes of its own, in one virtual host for all domains, whose routes are simple. No name
 -- in it begins with `xdstp:`.
-use Rattle.std.specs.Prelude.{ℕ, ◌+◌, ◌^◌, List, [], ◌∷◌, length, reverse, Bool, true, false, not, ◌&&◌, ◌==◌, nat_lt, nat_le, bytes_eq, if◌then◌else◌, codes, Option, Some, None, is_none, option_and_then, Result, Ok, Err}
+use Rattle.std.specs.Prelude.{ℕ, ◌+◌, List, [], ◌∷◌, length, reverse, Bool, true, false, not, ◌&&◌, ◌==◌, nat_lt, nat_le, bytes_eq, if◌then◌else◌, codes, Option, Some, None, is_none, option_and_then, Result}
 use Rattle.std.specs.List.{list_any, starts_with}
 use Rattle.std.specs.Result.{result_ok}
 use Rattle.proto_discovery.specs.declared.any.AnyValue.{AnyValue}
@@ -11,14 +11,11 @@ use Rattle.proto_discovery.specs.TypeUrls.{listener_url, manager_url}
 use Rattle.proto_listener.specs.Listener.{listener_of}
 use Rattle.proto_listener.specs.Manager.{manager_of}
 use Rattle.proto_listener.specs.declared.listener.RawListener.{RawListener}
-use Rattle.proto_listener.specs.declared.listener.RawApiListener.{RawApiListener}
-use Rattle.proto_listener.specs.declared.manager.RawManager.{RawManager}
 use Rattle.proto_listener.specs.declared.manager.RawManagerOne.{RawManagerOne}
 use Rattle.proto_listener.specs.declared.manager.RawManagerOne.TheVariants.{Rds, RouteConfig}
 use Rattle.proto_route.specs.declared.route_match.RawRouteMatch.{RawRouteMatch}
 use Rattle.proto_route.specs.declared.route_match.RawRouteMatchOne.{RawRouteMatchOne}
 use Rattle.proto_route.specs.declared.route_match.RawRouteMatchOne.TheVariants as test
-use Rattle.proto_route.specs.declared.route_action.RawRouteAction.{RawRouteAction}
 use Rattle.proto_route.specs.declared.route_action.RawRouteActionOne.{RawRouteActionOne}
 use Rattle.proto_route.specs.declared.route_action.RawRouteActionOne.TheVariants as action
 use Rattle.proto_route.specs.declared.routes.RawRoute.{RawRoute}

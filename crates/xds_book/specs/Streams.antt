@@ -1,8 +1,6 @@
 -- The stream of the one authority, in a history whose newest entry comes first (Envoy's xDS protocol, "ACK and NACK").
-use Rattle.std.specs.Prelude.{◌≡◌, ℕ, List, [], ◌∷◌, codes, Bool, true, false, not, ◌&&◌, ◌||◌, if◌then◌else◌, Option, Some, None, is_some, option_and_then}
+use Rattle.std.specs.Prelude.{ℕ, List, [], ◌∷◌, codes, Bool, true, false, not, ◌&&◌, ◌||◌, if◌then◌else◌, Option, Some, None, is_some}
 use Rattle.std.specs.Option.{option_map_or}
-use Rattle.xc_base.specs.declared.names.Authority.{Authority}
-use Rattle.xc_base.specs.declared.names.Kind.{Kind}
 use Rattle.xc_base.specs.declared.names.Kind.TheVariants.{Listener}
 use Rattle.xc_base.specs.declared.call.Node.{Node}
 use Rattle.proto_discovery.specs.declared.request.Request.{Request}

@@ -1,4 +1,3 @@
-use Rattle.std.proofs.Common.{sym, ◌∙◌}
 use Rattle.xds_book.proofs.KeptLemmas.{latest_some, latest_none}
 use Rattle.xds_book.proofs.book.latest.Goals as goal
 

@@ -1,4 +1,4 @@
-use Rattle.std.proofs.Common.{◌≡◌, get_or, sym, ◌∙◌}
+use Rattle.std.proofs.Common.{◌≡◌, get_or}
 use Rattle.xds_book.specs.Names.{has}
 use Rattle.xds_book.proofs.PlainLemmas.{counted_more, few_more, seen_more}
 use Rattle.xds_book.proofs.plain.count_different.Goals as goal

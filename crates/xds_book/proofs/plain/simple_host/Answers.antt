@@ -1,4 +1,3 @@
-use Rattle.std.proofs.Common.{◌≡◌, ◌∙◌, refl}
 use Rattle.xds_book.proofs.PlainLemmas.{lawful_host}
 use Rattle.xds_book.proofs.plain.simple_host.Goals as goal
 

@@ -1,4 +1,4 @@
-use Rattle.std.proofs.Common.{refl, arith, ◌∙◌, sym, length-append}
+use Rattle.std.proofs.Common.{arith, ◌∙◌, length-append}
 use Rattle.xds_book.proofs.PlainLemmas.{routes_more, routes_end, below_more, rising_more, each_more}
 use Rattle.xds_book.proofs.plain.simple_routes.Goals as goal
 

@@ -1,4 +1,4 @@
-use Rattle.std.proofs.Common.{◌≡◌, ◌<◌, ◌++◌, ◌^◌, List, length, drop, Option}
+use Rattle.std.proofs.Common.{◌≡◌, ◌<◌, ◌++◌, ◌^◌, List, length, drop}
 use Rattle.std.specs.Prelude.{All, AllPairs, option_map}
 use Rattle.xds_config.specs.declared.route_values.Route.{Route}
 use Rattle.xds_config.specs.Routes.{IsLawfulRoute}

@@ -1,4 +1,4 @@
-use Rattle.std.proofs.Common.{◌≡◌, reverse, arith, ◌∙◌, ap, sym, refl}
+use Rattle.std.proofs.Common.{◌≡◌, reverse, arith, ◌∙◌, ap}
 use Rattle.xc_base.specs.declared.call.Call.{Call}
 use Rattle.route_match.specs.Routes.{route}
 use Rattle.xds_book.specs.Calls.{is_led}
