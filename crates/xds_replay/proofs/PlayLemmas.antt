@@ -1,5 +1,5 @@
 -- What is played of a line, then of the next lines, and at last of the last sweep.
-use Rattle.std.proofs.Common.{◌≡◌, ℕ, ◌+◌, eqb, arith, zero, suc, List, [], ◌∷◌, ◌++◌, ◌==◌, map, filter, flat_map, reverse, take, length, ◌<◌, get_or, find, not, Bool, true, false, Option, Some, None, inl, inr, refl, sym, ap, ap₂, ◌∙◌, subst, append_assoc, append-nil}
+use Rattle.std.proofs.Common.{◌≡◌, ℕ, ◌+◌, eqb, arith, zero, suc, List, [], ◌∷◌, ◌++◌, ◌==◌, filter, flat_map, reverse, take, length, ◌<◌, get_or, false, inl, inr, refl, sym, ap, ap₂, ◌∙◌, subst, append_assoc, append-nil}
 use Rattle.std.proofs.lemmas.List.{reverse-append, take_more}
 use Rattle.std.proofs.lemmas.Bool.Decides.{nat_tests}
 use Rattle.std.proofs.lemmas.List.Concat.{flat_map-append}
@@ -24,7 +24,7 @@ use Rattle.xds_book.specs.History.{snapshots}
 use Rattle.xds_book.specs.Right.{Right}
 use Rattle.xds_book.specs.Seen.{Seen}
 use Rattle.xds_book.specs.Steps.{AddsDriven, committed, commit_reply, drives, hold_on, of_caller, started_on}
-use Rattle.xds_replay.specs.Legal.{EndsSwept, Legal, Plays, at_line, entries_of, entry_of, listed, listed_in, listed_last}
+use Rattle.xds_replay.specs.Legal.{Legal, Plays, at_line, entries_of, entry_of, listed_in, listed_last}
 use Rattle.xds_replay.specs.Playing.{AddsPlay}
 use Rattle.xds_replay.specs.declared.session.Line.{Line}
 use Rattle.xds_replay.specs.declared.session.Session.{Session}

@@ -1,7 +1,6 @@
 -- What a run did, from what its parts did.
 use Rattle.std.proofs.Common.{◌≡◌, ◌<◌, ◌≤◌, ◌+◌, ℕ, ◌⊎◌, inl, inr, List, take, length, reverse, Option, Some, None, IfSome, Result, Ok, Err, sym, ap, ◌∙◌, refl, arith, length-take-le, take_all}
 use Rattle.std.proofs.lemmas.Bool.{cases_lt, lt-ltb}
-use Rattle.std.specs.Io.KnownBytes.{Keeps}
 use Rattle.std.proofs.KnownBytes.{Keeps-refl}
 use Rattle.xc_base.specs.Outside.{AppendsFront}
 use Rattle.cluster_tree.specs.declared.snapshot.Snapshot.{Snapshot}
@@ -14,7 +13,7 @@ use Rattle.xds_replay.specs.declared.session.SessionFault.TheVariants as fault
 use Rattle.xds_replay.specs.declared.program.Status.{Status}
 use Rattle.xds_replay.specs.declared.program.Status.TheVariants as status
 use Rattle.xds_replay.specs.Legal.{Legal}
-use Rattle.xds_replay.specs.Outcome.{Fronts, Reports, status_of, text_of}
+use Rattle.xds_replay.specs.Outcome.{Fronts, Reports, status_of}
 use Rattle.xds_replay.specs.Played.{played_session, unplayed, when_played}
 use Rattle.xds_replay.specs.Report.{report_text}
 use Rattle.xds_replay.specs.Session.{◌>>=◌, Fails, Refusal, session_of, session_within}

@@ -1,5 +1,5 @@
 -- Lines are read one after another.
-use Rattle.std.proofs.Common.{◌≡◌, ℕ, suc, ◌+◌, List, [], ◌∷◌, length, Result, Ok, Err, refl, sym, ap, ◌∙◌, arith, subst}
+use Rattle.std.proofs.Common.{◌≡◌, ℕ, suc, ◌+◌, List, [], ◌∷◌, length, Result, Ok, Err, refl, arith}
 use Rattle.xds_replay.specs.Session.{Refusal, ◌>>=◌, Fails, lines_from, line_of, with_line}
 use Rattle.xds_replay.specs.Lines.{lines_of}
 use Rattle.xds_replay.specs.declared.session.Line.{Line}

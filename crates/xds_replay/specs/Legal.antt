@@ -1,7 +1,6 @@
 -- Legal histories of a session: what each actor lists is played once, in order, and each reply is the right one.
-use Rattle.std.specs.Prelude.{◌≡◌, ℕ, zero, suc, List, [], ◌∷◌, ◌++◌, ◌==◌, reverse, map, filter, Option, None, ◌⊎◌}
+use Rattle.std.specs.Prelude.{◌≡◌, ℕ, zero, suc, List, [], ◌∷◌, ◌++◌, ◌==◌, reverse, map, filter, None, ◌⊎◌}
 use Rattle.std.specs.List.{flat_map}
-use Rattle.xc_base.specs.declared.names.Authority.{Authority}
 use Rattle.xc_base.specs.declared.call.Call.{Call}
 use Rattle.call_journal.specs.declared.entry.Entry.{Entry}
 use Rattle.call_journal.specs.declared.entry.What.{What}

@@ -1,5 +1,5 @@
 -- Lines and words of a session's bytes (this project's own format).
-use Rattle.std.specs.Prelude.{ℕ, ◌+◌, List, [], ◌∷◌, length, take, drop, ◌==◌, Option, Some, None, option_map, if◌then◌else◌, Bool, true, false, not, codes, find}
+use Rattle.std.specs.Prelude.{ℕ, ◌+◌, List, [], ◌∷◌, length, take, drop, ◌==◌, Option, Some, None, option_map, if◌then◌else◌, Bool, false, not, codes, find}
 use Rattle.std.specs.Option.{option_map_or}
 use Rattle.std.specs.List.{onto_first, position, slice_split}
 use Rattle.std.specs.Str.{bytes_eq}

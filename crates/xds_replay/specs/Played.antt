@@ -1,10 +1,9 @@
 -- The sessions that are played: so far those of which each response is plain.
-use Rattle.std.specs.Prelude.{◌≡◌, ℕ, List, Bool, true, false, not, Option, Some, None, is_some, find, option_map, Result, Ok, Err}
+use Rattle.std.specs.Prelude.{ℕ, List, Bool, true, not, Option, Some, None, is_some, find, option_map, Result, Ok}
 use Rattle.xds_book.specs.Plain.{plain}
 use Rattle.xds_replay.specs.Session.{Refusal, ◌>>=◌, refused, session_of}
 use Rattle.xds_replay.specs.declared.session.Work.{Work}
 use Rattle.xds_replay.specs.declared.session.Work.TheVariants.{Open, Data, Sweep, Start, Commit}
-use Rattle.xds_replay.specs.declared.session.Line.{Line}
 use Rattle.xds_replay.specs.declared.session.Session.{Session}
 use Rattle.xds_replay.specs.declared.session.Cause.TheVariants.{Unbuilt}
 

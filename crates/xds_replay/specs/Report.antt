@@ -1,7 +1,6 @@
 -- The text of a report (this project's own format), as far as it is played: one authority, no patterns, no trees.
-use Rattle.std.specs.Prelude.{ℕ, ◌+◌, ◌-◌, List, [], ◌∷◌, ◌++◌, length, map, reverse, Option, Some, None, option_and_then, Result, Ok, Err, codes, slice_get}
+use Rattle.std.specs.Prelude.{ℕ, ◌+◌, ◌-◌, List, [], ◌∷◌, ◌++◌, length, map, reverse, Option, Some, None, Result, Ok, Err, codes, slice_get}
 use Rattle.std.specs.List.{concat, flat_map}
-use Rattle.std.specs.Option.{option_map_or}
 use Rattle.std.specs.Fmt.{decimal}
 use Rattle.percent_encoding.specs.Percent.{percent_encode}
 use Rattle.xc_base.specs.Reasons.{reason_word}
@@ -32,7 +31,6 @@ use Rattle.call_journal.specs.declared.event.CallerEvent.TheVariants.{Pin, Hold,
 use Rattle.call_journal.specs.declared.reply.DriverReply.{DriverReply}
 use Rattle.call_journal.specs.declared.reply.CallerReply.{CallerReply}
 use Rattle.call_journal.specs.declared.reply.CallerReply.TheVariants as reply
-use Rattle.call_journal.specs.declared.reply.Sent.{Sent}
 use Rattle.xds_replay.specs.declared.texts.TheConstants.{ESCAPED}
 
 -- all bytes but 0x21 to 0x7E, and of these `%`, `,`, `=` and `|`, are escaped

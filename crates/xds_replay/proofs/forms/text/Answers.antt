@@ -1,4 +1,3 @@
-use Rattle.std.proofs.Common.{◌≡◌, sym, ◌∙◌, ap, Some}
 use Rattle.xds_replay.proofs.TextLemmas.{text_is}
 use Rattle.xds_replay.proofs.forms.text.Goals as goal
 

@@ -1,4 +1,3 @@
-use Rattle.std.proofs.Common.{sym, ◌∙◌}
 use Rattle.xds_replay.proofs.LineLemmas.{line_cut, line_last}
 use Rattle.xds_replay.proofs.lines.next_line.Goals as goal
 

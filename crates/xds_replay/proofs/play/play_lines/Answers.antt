@@ -1,4 +1,4 @@
-use Rattle.std.proofs.Common.{◌≡◌, not, false, true, ap, ◌∙◌}
+use Rattle.std.proofs.Common.{not, ap, ◌∙◌}
 use Rattle.xds_replay.specs.Played.{is_played}
 use Rattle.xds_replay.specs.declared.session.Line.{Line}
 use Rattle.xds_replay.proofs.FindLemmas.{find_fails, turned}

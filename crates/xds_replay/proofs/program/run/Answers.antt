@@ -1,6 +1,5 @@
 use Rattle.std.proofs.Common.{sym, ◌∙◌}
 use Rattle.std.specs.Io.KnownBytes.{Appends}
-use Rattle.xds_replay.specs.declared.program.Status.TheVariants as status
 use Rattle.xds_replay.proofs.RunLemmas.{all_played, complete_of, fronts_of, never_refused, nothing_written, refusal_of, refused_of, reports_of}
 use Rattle.xds_replay.proofs.program.run.Goals as goal
 

@@ -1,4 +1,4 @@
-use Rattle.std.proofs.Common.{◌≡◌, ◌≤◌, length, reverse, take}
+use Rattle.std.proofs.Common.{◌≤◌, reverse, take}
 use Rattle.std.specs.Io.KnownBytes.{Appends}
 use Rattle.xds_replay.specs.Report.{entries_text}
 use Rattle.xds_replay.proofs.report.write_entries.Given as goal
