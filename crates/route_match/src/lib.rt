@@ -11,3 +11,6 @@ pub use answer::RouteAnswer;
 pub use clusters::cluster_of;
 pub use hosts::choose_host;
 pub use routes::choose_route;
+
+#[cfg(test)]
+mod tests;

@@ -149,7 +149,7 @@ fn target_of(clusters: &[Weighted], draw: u32) -> u64
     u64::from(draw) * total_weight(clusters) >> 32
 }
 
-fn total_weight(clusters: &[Weighted]) -> u64
+pub(crate) fn total_weight(clusters: &[Weighted]) -> u64
     requires { length clusters.now < 2 ^ 31 }
     ensures { result ≡ sum (weights_of clusters.now) }
 {
