@@ -8,3 +8,6 @@ pub mod fraction;
 pub use choice::{at_weight, cumulate, fraction_met};
 pub use fault::WeightFault;
 pub use fraction::{DropRule, Fraction};
+
+#[cfg(test)]
+mod tests;
