@@ -16,15 +16,23 @@ mod tests;
 pub mod texts;
 
 use program::{Status, run};
-use std::env;
 use std::process::ExitCode;
 use std::rt::Env;
+use std::{env, io};
 use xc_base::{StdSink, StdSource};
 
-fn words<R: Env + AllocGlobal>(rt: &R) -> Option<Vec<String>> {
-    let mut args = env::args(rt).ok()?;
+// Why there are no words: one of them isn't text, or there was no memory.
+fn unread(fault: &io::Error) -> Status {
+    match fault.kind() {
+        io::ErrorKind::OutOfMemory => Status::Memory,
+        _ => Status::Words,
+    }
+}
+
+fn words<R: Env + AllocGlobal>(rt: &R) -> Result<Vec<String>, Status> {
+    let mut args = env::args(rt).map_err(|fault| unread(&fault))?;
     let _program = args.next();
-    args.collect(rt.alloc()).ok()
+    args.collect(rt.alloc()).map_err(|_| Status::Memory)
 }
 
 // The status that the process ends with.
@@ -55,12 +63,12 @@ fn tell<R: Eprint>(rt: &R, status: Status) {
 
 fn main(rt: HostRuntime) -> ExitCode {
     let status = match words(&rt) {
-        Some(words) => {
+        Ok(words) => {
             let mut source = StdSource::new(rt.stdin());
             let mut sink = StdSink::new(rt.stdout());
             run(rt.alloc(), &words, &mut source, &mut sink)
         }
-        None => Status::Words,
+        Err(status) => status,
     };
     tell(&rt, status);
     ExitCode::from(number(status))
