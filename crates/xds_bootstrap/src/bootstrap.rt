@@ -1,0 +1,58 @@
+//! The bootstrap as data.
+ghost use Rattle.std.specs.Prelude.{◌≡◌, ◌≤◌, ◌<◌, length, IfSome};
+ghost use Rattle.std.specs.Str.{bytes_eq};
+ghost use Rattle.xds_bootstrap.specs.Authorities.{authority_of, place_among, named};
+
+use xc_base::{Authority, List, Node, Text};
+
+/// Whom the resources of an authority are asked of, and how its listeners are named (gRFC A47).
+#[derive(Clone, Debug, Drop, PartialEq, Eq)]
+pub struct AuthorityEntry {
+    pub name: Text,
+    pub server_uri: Text,
+    pub template: Text,
+}
+
+/// The authorities, and the client's node. Entry 0 is the default authority, whose name is empty.
+#[derive(Clone, Debug, Drop, PartialEq, Eq)]
+pub struct Bootstrap {
+    pub authorities: List<AuthorityEntry>,
+    pub node: Node,
+}
+
+impl Bootstrap {
+    /// The authority of this name among the named ones, which stand after the default one. It takes no
+    /// memory.
+    #[tactic(auto, unfolding(crate::specs::Authorities::authority_of))]
+    pub fn authority(&self, name: &str) -> Option<Authority>
+        ensures { result ≡ authority_of self.now.authorities name.now }
+    {
+        let place = place_among(named(self.authorities.as_slice()), name)?;
+        Some(Authority(place as u16 + 1))
+    }
+}
+
+// The named authorities among the entries.
+fn named(entries: &[AuthorityEntry]) -> &[AuthorityEntry]
+    ensures named { result.now ≡ named entries.now }
+    ensures few { length result.now ≤ 65534 }
+{
+    let (_, rest) = entries.split_at(entries.len().min(1));
+    let (named, _) = rest.split_at(rest.len().min(65_534));
+    named
+}
+
+// The place of the first entry of this name.
+#[tactic(auto, unfolding(crate::specs::Authorities::place_among))]
+fn place_among(entries: &[AuthorityEntry], name: &str) -> Option<usize>
+    ensures place { result ≡ place_among entries.now name.now }
+    ensures within { IfSome result (λ place. place < length entries.now) }
+{
+    entries.iter().position(|entry| has_name(entry, name))
+}
+
+fn has_name(entry: &AuthorityEntry, name: &str) -> bool
+    ensures { result ≡ bytes_eq entry.now.name name.now }
+{
+    entry.name.as_str() == name
+}
