@@ -1,0 +1,5 @@
+pub mod Texts
+pub mod Parameters
+pub mod Names
+pub mod Targets
+pub mod Views

@@ -1,0 +1,70 @@
+//! Canonical names.
+ghost use Rattle.std.specs.Prelude.{◌≡◌, ◌++◌, map, codes, IfOk, string_bytes};
+ghost use Rattle.std.specs.List.{join_with_byte};
+ghost use Rattle.xds_name.specs.Names.{canonical_of};
+ghost use Rattle.xds_name.specs.Parameters.{in_order, key_of, parameter_cmp};
+ghost use Rattle.xds_name.specs.Texts.{parts_at};
+
+use crate::parts::parts_in;
+use crate::texts::cut_at;
+use std::alloc::Global;
+use std::cmp::Ordering;
+use xc_base::{Memory, Text};
+
+// The key of a parameter.
+fn key(parameter: &str) -> &str
+    ensures { result.now ≡ key_of parameter.now }
+{
+    match parameter.split_once('=') {
+        Some((key, _)) => key,
+        None => parameter,
+    }
+}
+
+// Compares two parameters by their keys, then whole.
+fn compare(a: &str, b: &str) -> Ordering
+    ensures { result ≡ parameter_cmp a.now b.now }
+{
+    key(a).cmp(key(b)).then(a.cmp(b))
+}
+
+// The parameters as they stand.
+fn parameters(alloc: Global, text: &str) -> Result<Vec<&str>, Memory>
+    ensures { IfOk result (λ v. map (λ p. p.now) v.items ≡ parts_at 38 text.now) }
+{
+    text.split('&').collect(alloc)
+}
+
+// The parameters in order.
+fn in_order(alloc: Global, text: &str) -> Result<Vec<&str>, Memory>
+    ensures { IfOk result (λ v. map (λ p. p.now) v.items ≡ in_order (parts_at 38 text.now)) }
+{
+    let mut parameters = parameters(alloc, text)?;
+    parameters.sort_unstable_by(|a, b| compare(a, b));
+    Ok(parameters)
+}
+
+// Parameters with `&` between them.
+fn joined(alloc: Global, parameters: &[&str]) -> Result<String, Memory>
+    ensures { IfOk result (λ s. string_bytes s ≡ join_with_byte 38 (map (λ p. p.now) parameters.now)) }
+{
+    parameters.join(alloc, "&")
+}
+
+/// The canonical text of a name: an `xdstp:` name's parameters in order of their keys and then of the
+/// whole parameters. A name that hasn't the form of an `xdstp:` name is its own canonical text.
+#[tactic(auto, unfolding(crate::specs::Names::canonical_of))]
+pub fn canonical(alloc: Global, text: &str) -> Result<Text, Memory>
+    ensures { IfOk result (λ name. name ≡ canonical_of text.now) }
+{
+    if parts_in(text).is_none() {
+        return Text::from_str(alloc, text);
+    }
+    let Some((head, parameters)) = cut_at('?', text) else {
+        return Text::from_str(alloc, text);
+    };
+    let parameters = in_order(alloc, parameters)?;
+    let parameters = joined(alloc, &parameters)?;
+    let name = format!(in alloc; "{head}?{parameters}")?;
+    Text::from_string(alloc, name)
+}

@@ -1,0 +1,72 @@
+//! Where names live.
+ghost use Rattle.std.specs.Prelude.{◌≡◌, IfOk};
+ghost use Rattle.xds_name.specs.Names.{begins_with_digits, has_bad_escape, home_of, resource_key, type_name};
+
+use crate::canonical_text::canonical;
+use crate::parts::parts_in;
+use std::alloc::Global;
+use xc_base::{Authority, Home, Key, Kind, Memory, NameFault};
+use xds_bootstrap::Bootstrap;
+
+/// The type of a kind's resources, as in their type URL.
+pub fn type_name(kind: Kind) -> &'static str
+    ensures { result.now ≡ type_name kind }
+{
+    match kind {
+        Kind::Listener => "envoy.config.listener.v3.Listener",
+        Kind::Route => "envoy.config.route.v3.RouteConfiguration",
+        Kind::Cluster => "envoy.config.cluster.v3.Cluster",
+        Kind::Endpoint => "envoy.config.endpoint.v3.ClusterLoadAssignment",
+    }
+}
+
+fn begins_with_digits(text: &[u8]) -> bool
+    ensures { result ≡ begins_with_digits text.now }
+{
+    matches!(text, [high, low, ..] if high.is_ascii_hexdigit() && low.is_ascii_hexdigit())
+}
+
+// Whether there is a `%` without two hexadecimal digits after it.
+#[tactic(auto, unfolding(crate::specs::Names::has_bad_escape))]
+fn has_bad_escape(text: &[u8]) -> bool
+    ensures { result ≡ has_bad_escape text.now }
+{
+    for i in 0..text.len() {
+        if text[i] == b'%' && !begins_with_digits(&text[i + 1..]) {
+            return true;
+        }
+    }
+    false
+}
+
+#[tactic(auto, unfolding(crate::specs::Names::home_of))]
+fn home(boot: &Bootstrap, kind: Kind, text: &str) -> Home
+    ensures { result ≡ home_of boot.now.authorities kind text.now }
+{
+    if !text.starts_with("xdstp:") {
+        return Home::At(Authority::DEFAULT);
+    }
+    if has_bad_escape(text.as_bytes()) {
+        return Home::Nowhere(NameFault::BadEscape);
+    }
+    let Some(parts) = parts_in(text) else {
+        return Home::Nowhere(NameFault::WrongType);
+    };
+    if parts.resource != type_name(kind) {
+        return Home::Nowhere(NameFault::WrongType);
+    }
+    match boot.authority(parts.authority) {
+        Some(authority) => Home::At(authority),
+        None => Home::Nowhere(NameFault::UnknownAuthority),
+    }
+}
+
+/// The key of a name of a kind: its canonical text, and where it lives. Of the faults of an `xdstp:`
+/// name the first counts: a bad escape, a wrong type, an unknown authority.
+pub fn parse_name(alloc: Global, boot: &Bootstrap, kind: Kind, text: &str) -> Result<Key, Memory>
+    ensures { IfOk result (λ key. key ≡ resource_key boot.now.authorities kind text.now) }
+{
+    let name = canonical(alloc, text)?;
+    let home = home(boot, kind, text);
+    Ok(Key { kind, name, home })
+}

@@ -1,0 +1,15 @@
+//! Resource names: their canonical texts, where they live, and the listener that a channel's target
+//! names (gRFC A27, A47).
+#![tactic(auto)]
+
+pub mod canonical_text;
+mod forms;
+pub mod homes;
+mod parts;
+pub mod target;
+mod templates;
+mod texts;
+
+pub use canonical_text::canonical;
+pub use homes::{parse_name, type_name};
+pub use target::{Target, TargetFault, listener_name};
