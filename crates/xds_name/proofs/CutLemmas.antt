@@ -68,7 +68,7 @@ cuts byte (b ∷ bs) = rw (cut_cons byte b bs) (cuts_at (eqb b byte) byte b bs (
 pub cuts_as : (byte : ℕ) (text : List ℕ) (found : Option (List ℕ × List ℕ)) → cut_at byte text ≡ found → Cuts byte text found
 cuts_as byte text found is = rw (← is) (cuts byte text)
 
-lacks_first : (t : Bool) (byte b : ℕ) (bs : List ℕ) → eqb b byte ≡ t → lacks byte (b ∷ bs) ≡ true → (t ≡ false) × (lacks byte bs ≡ true)
+pub lacks_first : (t : Bool) (byte b : ℕ) (bs : List ℕ) → eqb b byte ≡ t → lacks byte (b ∷ bs) ≡ true → (t ≡ false) × (lacks byte bs ≡ true)
 lacks_first true byte b bs is h = absurd (let no_byte : false ≡ true = rw is at h in cc)
 lacks_first false byte b bs is h = (refl, rw is at h)
 

@@ -6,3 +6,5 @@ pub mod EscapeLemmas
 pub mod FillLemmas
 pub mod CutLemmas
 pub mod TargetLemmas
+pub mod NameLemmas
+pub mod StayLemmas

@@ -3,3 +3,4 @@ pub mod Parameters
 pub mod Names
 pub mod Targets
 pub mod Views
+pub mod Laws

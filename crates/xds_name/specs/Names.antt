@@ -29,12 +29,22 @@ head_of text = before_first (λ b. b == 63) text
 -- the name has the form, with these parts: each of the three may be empty, and the id may have slashes
 pub record HasForm (text : List ℕ) (parts : Parts) : Type 0 where
   pub id : List ℕ
-  pub head : head_of text ≡ codes "xdstp://" ++ parts.authority ++ 47 ∷ parts.resource ++ 47 ∷ id
+  pub head : head_of text ≡ codes "xdstp://" ++ (parts.authority ++ 47 ∷ (parts.resource ++ 47 ∷ id))
   pub authority : IsTrue (lacks 47 parts.authority)
   pub resource : IsTrue (lacks 47 parts.resource)
 
+-- the type ends at a slash, too
+abbrev pub with_resource : List ℕ → Option (List ℕ × List ℕ) → Option Parts
+with_resource authority None = None
+with_resource authority (Some p) = Some record { authority = authority; resource = p.0 }
+
+abbrev pub with_authority : Option (List ℕ × List ℕ) → Option Parts
+with_authority None = None
+with_authority (Some p) = with_resource p.0 (cut_at 47 p.1)
+
+-- of what stands after `xdstp://`
 abbrev pub parts_from : List ℕ → Option Parts
-parts_from path = option_and_then (λ p. option_and_then (λ q. Some record { authority = p.0; resource = q.0 }) (cut_at 47 p.1)) (cut_at 47 path)
+parts_from path = with_authority (cut_at 47 path)
 
 -- the parts that a name has
 unfoldable pub parts_of : List ℕ → Option Parts

@@ -5,6 +5,7 @@
 pub mod canonical_text;
 mod forms;
 pub mod homes;
+pub mod laws;
 mod parts;
 pub mod target;
 mod templates;
@@ -12,4 +13,10 @@ mod texts;
 
 pub use canonical_text::canonical;
 pub use homes::{parse_name, type_name};
+pub use laws::{
+    canonical_names_stay, names_have_forms, parameters_are_in_order, targets_have_forms,
+};
 pub use target::{Target, TargetFault, listener_name};
+
+#[cfg(test)]
+mod tests;
