@@ -1,1 +1,3 @@
 pub mod Authorities
+pub mod Document
+pub mod Views

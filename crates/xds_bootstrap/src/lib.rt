@@ -2,5 +2,13 @@
 #![tactic(auto)]
 
 pub mod bootstrap;
+mod entries;
+pub mod fault;
+mod members;
+mod nodes;
+pub mod reading;
+mod servers;
 
 pub use bootstrap::{AuthorityEntry, Bootstrap};
+pub use fault::BootFault;
+pub use reading::read;

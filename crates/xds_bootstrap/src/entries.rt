@@ -1,0 +1,133 @@
+//! The named authorities of a bootstrap.
+ghost use Rattle.std.specs.Prelude.{◌≡◌, ◌==◌, ◌∷◌, [], Some, IfOk, map, option_and_then, option_map, string_bytes};
+ghost use Rattle.std.specs.List.{starts_with};
+ghost use Rattle.serde_json.specs.Find.{as_object};
+ghost use Rattle.serde_json.specs.View.{members_view, view};
+ghost use Rattle.xds_bootstrap.specs.Document.{Gives, entries_from, entries_of, entry_in, entry_of, front_of, template_in, template_with};
+ghost use Rattle.xds_bootstrap.specs.Views.{seen_members, seen_text, seen_value};
+
+use crate::bootstrap::AuthorityEntry;
+use crate::fault::BootFault;
+use crate::members::text_member;
+use crate::servers::own_servers;
+use serde_json::{Map, Value};
+use std::alloc::{AllocError, Global};
+use xc_base::{List, Text};
+
+// The most named authorities.
+const MOST: usize = 65_534;
+
+fn front(alloc: Global, authority: &str) -> Result<String, AllocError>
+    ensures { IfOk result (λ s. string_bytes s ≡ front_of authority.now) }
+{
+    format!(in alloc; "xdstp://{authority}/")
+}
+
+fn begins_with(text: &str, front: &str) -> bool
+    ensures { result ≡ starts_with ◌==◌ text.now front.now }
+{
+    text.starts_with(front)
+}
+
+// A template, which has to begin with this front.
+fn own_template(alloc: Global, front: &str, text: &str) -> Result<Text, BootFault>
+    ensures { Gives (λ t. t) result (template_with front.now text.now) }
+{
+    if begins_with(text, front) {
+        Ok(Text::from_str(alloc, text)?)
+    } else {
+        let name = "client_listener_resource_name_template";
+        Err(BootFault::WrongKind(Text::from_str(alloc, name)?))
+    }
+}
+
+fn template(alloc: Global, authority: &str, text: Option<&str>) -> Result<Text, BootFault>
+    ensures { Gives (λ t. t) result (template_in authority.now (seen_text text.entry)) }
+{
+    let front = front(alloc, authority)?;
+    match text {
+        Some(text) => own_template(alloc, &front, text),
+        None => {
+            let text = format!(in alloc; "{front}envoy.config.listener.v3.Listener/%s")?;
+            Ok(Text::from_string(alloc, text)?)
+        }
+    }
+}
+
+fn entry_in(
+    alloc: Global,
+    top: &Text,
+    name: &str,
+    value: &Value,
+) -> Result<AuthorityEntry, BootFault>
+    ensures { Gives (λ e. e) result (entry_in top.now name.now (view value.now)) }
+{
+    let server_uri = own_servers(alloc, top, value.get("xds_servers"))?;
+    let text = text_member(alloc, Some(value), "client_listener_resource_name_template")?;
+    let template = template(alloc, name, text)?;
+    let name = Text::from_str(alloc, name)?;
+    Ok(AuthorityEntry {
+        name,
+        server_uri,
+        template,
+    })
+}
+
+#[tactic(auto, unfolding(crate::specs::Document::entry_of))]
+fn entry(alloc: Global, top: &Text, name: &str, value: &Value) -> Result<AuthorityEntry, BootFault>
+    ensures { Gives (λ e. e) result (entry_of top.now name.now (view value.now)) }
+{
+    if !value.is_object() {
+        return Err(BootFault::WrongKind(Text::from_str(alloc, "authorities")?));
+    }
+    entry_in(alloc, top, name, value)
+}
+
+fn pairs(alloc: Global, members: &Map<String, Value>) -> Result<Vec<(&String, &Value)>, AllocError>
+    ensures { IfOk result (λ v. map (λ p. (p.0.now, p.1.now)) v.items ≡ members.now.entries) }
+{
+    members.iter().collect(alloc)
+}
+
+// The default entry, and one for each member.
+fn entries_from(
+    alloc: Global,
+    default: AuthorityEntry,
+    members: &[(&String, &Value)],
+) -> Result<List<AuthorityEntry>, BootFault>
+    ensures { Gives (λ es. es) result (entries_from (default ∷ []) default.server_uri (seen_members members.now)) }
+{
+    let top = default.server_uri.clone()?;
+    let mut entries = List::new(alloc);
+    entries.push(default)?;
+    for (name, value) in members {
+        let entry = entry(alloc, &top, name, value)?;
+        entries.push(entry)?;
+    }
+    Ok(entries)
+}
+
+fn members(authorities: Option<&Value>) -> Option<&Map<String, Value>>
+    ensures { option_map (λ m. members_view m.now.entries) result ≡ option_and_then as_object (seen_value authorities.entry) }
+{
+    authorities?.as_object()
+}
+
+/// The default entry, and after it one for each authority, in the order of their names' bytes.
+pub fn entries(
+    alloc: Global,
+    default: AuthorityEntry,
+    authorities: Option<&Value>,
+) -> Result<List<AuthorityEntry>, BootFault>
+    ensures { Gives (λ es. es) result (entries_of default (seen_value authorities.entry)) }
+{
+    let Some(members) = members(authorities) else {
+        return entries_from(alloc, default, &[]);
+    };
+    if members.len() > MOST {
+        let name = Text::from_str(alloc, "authorities")?;
+        return Err(BootFault::WrongKind(name));
+    }
+    let members = pairs(alloc, members)?;
+    entries_from(alloc, default, &members)
+}
