@@ -1,5 +1,5 @@
 -- What is lent, as values.
-use Rattle.std.specs.Prelude.{ℕ, List, Option, option_map, map, string_bytes, String}
+use Rattle.std.specs.Prelude.{ℕ, List, Option, option_map, map, String}
 use Rattle.std.specs.Borrow.{Bor}
 use Rattle.std.specs.declared.alloc.Global.{Global}
 use Rattle.serde_json.specs.Data.{Data, Members}

@@ -3,6 +3,7 @@ ghost use Rattle.std.specs.Prelude.{◌≡◌, ◌==◌, ◌∷◌, [], Some, If
 ghost use Rattle.std.specs.List.{starts_with};
 ghost use Rattle.serde_json.specs.Find.{as_object};
 ghost use Rattle.serde_json.specs.View.{members_view, view};
+ghost use Rattle.xds_bootstrap.specs.Authorities.{AreAuthorities};
 ghost use Rattle.xds_bootstrap.specs.Document.{Gives, entries_from, entries_of, entry_in, entry_of, front_of, template_in, template_with};
 ghost use Rattle.xds_bootstrap.specs.Views.{seen_members, seen_text, seen_value};
 
@@ -95,7 +96,8 @@ fn entries_from(
     default: AuthorityEntry,
     members: &[(&String, &Value)],
 ) -> Result<List<AuthorityEntry>, BootFault>
-    ensures { Gives (λ es. es) result (entries_from (default ∷ []) default.server_uri (seen_members members.now)) }
+    ensures gives { Gives (λ es. es) result (entries_from (default ∷ []) default.server_uri (seen_members members.now)) }
+    ensures names { IfOk result (λ es. map (λ e. e.name) es ≡ default.name ∷ map (λ p. string_bytes p.0.now) members.now) }
 {
     let top = default.server_uri.clone()?;
     let mut entries = List::new(alloc);
@@ -119,7 +121,8 @@ pub fn entries(
     default: AuthorityEntry,
     authorities: Option<&Value>,
 ) -> Result<List<AuthorityEntry>, BootFault>
-    ensures { Gives (λ es. es) result (entries_of default (seen_value authorities.entry)) }
+    ensures gives { Gives (λ es. es) result (entries_of default (seen_value authorities.entry)) }
+    ensures lawful { default.name ≡ [] → IfOk result AreAuthorities }
 {
     let Some(members) = members(authorities) else {
         return entries_from(alloc, default, &[]);

@@ -12,3 +12,6 @@ mod servers;
 pub use bootstrap::{AuthorityEntry, Bootstrap};
 pub use fault::BootFault;
 pub use reading::read;
+
+#[cfg(test)]
+mod tests;

@@ -1,6 +1,7 @@
 //! A bootstrap, read.
 ghost use Rattle.std.specs.Prelude.{◌≡◌, IfOk};
 ghost use Rattle.serde_json.specs.View.{view};
+ghost use Rattle.xds_bootstrap.specs.Authorities.{AreAuthorities};
 ghost use Rattle.xds_bootstrap.specs.Document.{Gives, all_entries, bootstrap_in, default_entry, document_of, read_bootstrap};
 ghost use Rattle.xds_bootstrap.specs.Views.{seen_text, seen_value};
 
@@ -42,14 +43,16 @@ fn all_entries(
     text: Option<&str>,
     authorities: Option<&Value>,
 ) -> Result<List<AuthorityEntry>, BootFault>
-    ensures { Gives (λ es. es) result (all_entries server_uri (seen_text text.entry) (seen_value authorities.entry)) }
+    ensures gives { Gives (λ es. es) result (all_entries server_uri (seen_text text.entry) (seen_value authorities.entry)) }
+    ensures lawful { IfOk result AreAuthorities }
 {
     let default = default_entry(alloc, server_uri, text)?;
     entries(alloc, default, authorities)
 }
 
 fn bootstrap_in(alloc: Global, document: &Value) -> Result<Bootstrap, BootFault>
-    ensures { Gives (λ b. b) result (bootstrap_in (view document.now)) }
+    ensures gives { Gives (λ b. b) result (bootstrap_in (view document.now)) }
+    ensures lawful { IfOk result (λ b. AreAuthorities b.authorities) }
 {
     let server_uri = servers(alloc, document.get("xds_servers"))?;
     let node = node(alloc, document)?;
@@ -75,10 +78,12 @@ fn document(alloc: Global, bytes: &[u8]) -> Result<Value, BootFault>
     }
 }
 
-/// The bootstrap that the bytes are. A fault is the first in the order of the table of members.
+/// The bootstrap that the bytes are: entry 0 is the default authority, and the named ones stand after it
+/// in strictly rising order. A fault is the first in the order of the table of members.
 #[tactic(auto, unfolding(crate::specs::Document::read_bootstrap))]
 pub fn read(alloc: Global, bytes: &[u8]) -> Result<Bootstrap, BootFault>
     ensures gives { Gives (λ b. b) result (read_bootstrap bytes.now) }
+    ensures lawful { IfOk result (λ b. AreAuthorities b.authorities) }
 {
     let document = document(alloc, bytes)?;
     if !document.is_object() {
