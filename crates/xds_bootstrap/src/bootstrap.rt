@@ -13,7 +13,8 @@ pub struct AuthorityEntry {
     pub template: Text,
 }
 
-/// The authorities, and the client's node. Entry 0 is the default authority, whose name is empty.
+/// The authorities, and the client's node. In one that was read, entry 0 is the default authority, whose
+/// name is empty.
 #[derive(Clone, Debug, Drop, PartialEq, Eq)]
 pub struct Bootstrap {
     pub authorities: List<AuthorityEntry>,
