@@ -1,0 +1,3 @@
+pub mod ChildLemmas
+pub mod HistoryLemmas
+pub mod WalkLemmas
