@@ -3,7 +3,7 @@ use Rattle.std.proofs.Common.{◌≡◌, ◌↔◌, ℕ, ◌+◌, ◌-◌, ◌<�
 use Rattle.std.specs.Prelude.{unwrap_or, IsTrue}
 use Rattle.std.specs.Option.{option_map_or}
 use Rattle.std.specs.List.{zip, list_all, list_any, position_from}
-use Rattle.std.proofs.lemmas.List.{get_or-take, length-take-le, ext_get_or, get_or_default}
+use Rattle.std.proofs.lemmas.List.{length-map, get_or-take, length-take-le, ext_get_or, get_or_default}
 use Rattle.std.proofs.lemmas.Slice.Zip.{get_or-zip, length-zip}
 use Rattle.std.proofs.lemmas.List.Folds.{list_all_more, list_any_at}
 use Rattle.std.proofs.Math.Seq.{append_snoc}
@@ -19,6 +19,7 @@ use Rattle.priority_lb.specs.Step.{step, carried, fresh, walk, walked}
 use Rattle.priority_lb.specs.History.{Name, same_name, Update, Mark, Trail, reached_of, behind_of, seen_at, names_of, trail_of, next_trail, trails}
 use Rattle.priority_lb.specs.Law.{places, ManySteps, ChildByChild, IsPassed, child_at, trail_at, seen_in, seen_now, SameNames, PlaceByPlace}
 use Rattle.priority_lb.proofs.HistoryLemmas.{one_step}
+use Rattle.priority_lb.proofs.WalkLemmas.{length-in_order}
 
 pub many_steps : ManySteps
 many_steps [] = refl
@@ -37,14 +38,6 @@ map_take : {A B : Type 0} (f : A → B) (n : ℕ) (xs : List A) → map f (take 
 map_take f zero xs = refl
 map_take f (suc n) [] = refl
 map_take f (suc n) (x ∷ xs) = ap (λ ys. f x ∷ ys) (map_take f n xs)
-
-length_in_order : {A B : Type 0} (f : List B → A → B) (before : List B) (xs : List A) → length (in_order f before xs) ≡ length xs
-length_in_order f before [] = refl
-length_in_order f before (x ∷ xs) = ap suc (length_in_order f (before ++ f before x ∷ []) xs)
-
-length_map : {A B : Type 0} (f : A → B) (xs : List A) → length (map f xs) ≡ length xs
-length_map f [] = refl
-length_map f (x ∷ xs) = ap suc (length_map f xs)
 
 and_left : (a b : Bool) → (a && b) ≡ true → a ≡ true
 and_left true b e = refl
@@ -195,18 +188,18 @@ trail_is : (e : Update) (past : List Update) (p : ℕ) → p < length e.children
 trail_is e past p lt =
     let g : Name × State → Trail × State = λ c. (trail_of c.0 (names_of past) (trails past), c.1) in
     let d : Name × State = (([], 0), Connecting) in
-    let lx : p < length (map g e.children) = rw (length_map g e.children) lt in
+    let lx : p < length (map g e.children) = rw (length-map e.children g) lt in
     in_order_at (next_trail e.now) [] (map g e.children) p [] (g d) lx ∙ ap (λ (x : Trail × State). next_trail e.now (take p (trails (e ∷ past))) x) (get_or-map g e.children p d)
 
 pub length_trails : (e : Update) (past : List Update) → length (trails (e ∷ past)) ≡ length e.children
-length_trails e past = length_in_order (next_trail e.now) [] _ ∙ length_map _ e.children
+length_trails e past = length-in_order (next_trail e.now) [] _ ∙ length-map e.children _
 
 seen_is : (past : List Update) (k : ℕ) → get_or (seen_now past) k (seen_at []) ≡ seen_in past k
 seen_is past k = get_or-map seen_at (trails past) k []
 
 is_walk : (e : Update) (past : List Update) → IsWalk (seen_now (e ∷ past)) (seen_at [])
 is_walk e past k lt =
-    let lc : k < length e.children = (let a = length_map seen_at (trails (e ∷ past)) in let b = length_trails e past in omega arith) in
+    let lc : k < length e.children = (let a = length-map (trails (e ∷ past)) seen_at in let b = length_trails e past in omega arith) in
     ap (λ (c : Seen). c.reached) (seen_is (e ∷ past) k) ∙ (ap reached_of (trail_is e past k lc) ∙ ap is_reached (map_take seen_at k (trails (e ∷ past))))
 
 passed_in : (e : Update) (past : List Update) (p k : ℕ) → p ≤ length (seen_now (e ∷ past)) → k < length (take p (seen_now (e ∷ past))) → ((k : ℕ) → k < p → IsPassed (seen_in (e ∷ past) k)) →
@@ -226,7 +219,7 @@ child_by_child e past p lt =
     let S : List Seen = seen_now (e ∷ past) in
     let d : Seen = seen_at [] in
     let E = trail_is e past p lt in
-    let lS : p ≤ length S = (let a = length_map seen_at T in let b = length_trails e past in omega arith) in
+    let lS : p ≤ length S = (let a = length-map T seen_at in let b = length_trails e past in omega arith) in
     let R : reached_of (trail_at (e ∷ past) p) ≡ is_reached (take p S) = ap reached_of E ∙ ap is_reached (map_take seen_at p T) in
     let B : behind_of (trail_at (e ∷ past) p) ≡ is_behind_ready (take p S) = ap behind_of E ∙ ap is_behind_ready (map_take seen_at p T) in
     let old : Trail = trail_of (child_at e p).0 (names_of past) (trails past) in
@@ -252,7 +245,7 @@ same_names names kept once same =
     let d : Name = ([], 0) in
     let from : Option ℕ → ChildFacts = λ f. option_map_or (λ p. get_or kept p fresh) f fresh in
     let place : Name → Option ℕ = λ n. position_from (same_name n) 0 names in
-    let len : length (carried (places names names) kept) ≡ length kept = length_map from (places names names) ∙ (length_map place names ∙ sym same) in
+    let len : length (carried (places names names) kept) ≡ length kept = length-map (places names names) from ∙ (length-map names place ∙ sym same) in
     ext_get_or (from (place d)) (carried (places names names) kept) kept len
     (λ i lt.
     let ln : i < length names = omega (arith, len, lt, same) in

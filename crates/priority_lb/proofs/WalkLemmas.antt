@@ -3,7 +3,7 @@ use Rattle.std.proofs.Common.{◌≡◌, ℕ, ◌+◌, ◌-◌, ◌<◌, ◌≤�
 use Rattle.std.specs.Prelude.{set, unwrap_or}
 use Rattle.std.specs.Option.{option_or}
 use Rattle.std.specs.List.{zip, list_all, list_any, position_from}
-use Rattle.std.proofs.lemmas.List.{map-append, take_more, length-take-le, take_all}
+use Rattle.std.proofs.lemmas.List.{length-map, map-append, take_more, length-take-le, take_all}
 use Rattle.std.proofs.lemmas.List.Folds.{list_all-append, list_any-append}
 use Rattle.std.proofs.lemmas.Slice.Zip.{get_or-zip, length-zip}
 use Rattle.std.proofs.Math.Seq.{set-append_seam, get_or-append_seam, append_snoc, drop-cons}
@@ -21,13 +21,9 @@ in_order_more {B = B} f before (x ∷ xs) y =
     ap (λ (bs : List B). f before x ∷ bs) here ∙
     ap (λ (bs : List B). f before x ∷ (in_order f (before ++ f before x ∷ []) xs ++ f bs y ∷ [])) (append_snoc before (f before x) (in_order f (before ++ f before x ∷ []) xs))
 
-length_in_order : {A B : Type 0} (f : List B → A → B) (before : List B) (xs : List A) → length (in_order f before xs) ≡ length xs
-length_in_order f before [] = refl
-length_in_order f before (x ∷ xs) = ap suc (length_in_order f (before ++ f before x ∷ []) xs)
-
-length_map : {A B : Type 0} (f : A → B) (xs : List A) → length (map f xs) ≡ length xs
-length_map f [] = refl
-length_map f (x ∷ xs) = ap suc (length_map f xs)
+pub length-in_order : {A B : Type 0} (f : List B → A → B) (before : List B) (xs : List A) → length (in_order f before xs) ≡ length xs
+length-in_order f before [] = refl
+length-in_order f before (x ∷ xs) = ap suc (length-in_order f (before ++ f before x ∷ []) xs)
 
 position_cases : (b : Bool) (n : ℕ) (o p : Option ℕ) → cond b (Some n) (option_or o p) ≡ option_or (cond b (Some n) o) p
 position_cases true n o p = refl
@@ -62,7 +58,7 @@ walk_more now old states i dk ds lt same =
 length_walk : (now : Time) (old : List ChildFacts) (states : List State) (i : ℕ) → i ≤ length old → length states ≡ length old → length (walk_to now old states i) ≡ i
 length_walk now old states i le same =
     let lz : i ≤ length (zip old states) = rw (length-zip old states) (omega arith) in
-    length_in_order (walked now) [] (take i (zip old states)) ∙ length-take-le i (zip old states) lz
+    length-in_order (walked now) [] (take i (zip old states)) ∙ length-take-le i (zip old states) lz
 
 reached_cases : (r u : Bool) → (r && not u) ≡ (r && ((r && not u) && true))
 reached_cases true true = refl
@@ -89,8 +85,8 @@ walk_turn now old states i kept reached behind stop dk ds next up reached' behin
     let w : Walked = walked now W (o, get_or states i ds) in
     let more = walk_more now old states i dk ds lt same in
     let lW : length W ≡ i = length_walk now old states i (omega arith) same in
-    let lF : length F ≡ i = length_map (λ (w : Walked). w.facts) W ∙ lW in
-    let lS : length (map seen W) ≡ i = length_map seen W ∙ lW in
+    let lF : length F ≡ i = length-map W (λ (w : Walked). w.facts) ∙ lW in
+    let lS : length (map seen W) ≡ i = length-map W seen ∙ lW in
     let kept_seam : kept ≡ F ++ o ∷ R = inv.kept_is ∙ ap (λ (xs : List ChildFacts). F ++ xs) (drop-cons old i dk lt) in
     let here : get_or kept i dk ≡ o = ap (λ (xs : List ChildFacts). get_or xs i dk) kept_seam ∙ (ap (λ (n : ℕ). get_or (F ++ o ∷ R) n dk) (sym lF) ∙ get_or-append_seam F o R dk) in
     let there : set kept i next ≡ F ++ next ∷ R = ap (λ (xs : List ChildFacts). set xs i next) kept_seam ∙ (ap (λ (n : ℕ). set (F ++ o ∷ R) n next) (sym lF) ∙ set-append_seam F o R next) in
@@ -148,7 +144,7 @@ chosen_is now old states kept stop connecting len result kept_is stop_is connect
     let c : connecting ≡ position_from (λ (s : Seen). is_connecting s.state) 0 (map seen W) =
     connecting_is ∙ (ap (λ (xs : List ChildFacts). position_from (λ (k : ChildFacts). is_connecting k.state) 0 xs) kept_is ∙
     (position_map (λ (k : ChildFacts). is_connecting k.state) (λ (w : Walked). w.facts) 0 W ∙ sym (position_map (λ (s : Seen). is_connecting s.state) seen 0 W))) in
-    let l : len ≡ length (map seen W) = len_is ∙ (ap (λ (xs : List ChildFacts). length xs) kept_is ∙ (length_map (λ (w : Walked). w.facts) W ∙ sym (length_map seen W))) in
+    let l : len ≡ length (map seen W) = len_is ∙ (ap (λ (xs : List ChildFacts). length xs) kept_is ∙ (length-map W (λ (w : Walked). w.facts) ∙ sym (length-map W seen))) in
     is ∙ (ap (λ (o : Option ℕ). unwrap_or o (unwrap_or connecting (len - 1))) stop_is ∙
     (ap (λ (o : Option ℕ). unwrap_or (position_from (λ c. c.reached && stops c) 0 (map seen W)) (unwrap_or o (len - 1))) c ∙
     ap (λ (n : ℕ). unwrap_or (position_from (λ c. c.reached && stops c) 0 (map seen W)) (unwrap_or (position_from (λ (s : Seen). is_connecting s.state) 0 (map seen W)) (n - 1))) l))
@@ -170,7 +166,7 @@ chosen_below cs lt =
 
 -- as many children after an update as before it
 pub length_walk_all : (now : Time) (old : List ChildFacts) (states : List State) → length states ≡ length old → length (map seen (walk now old states)) ≡ length old
-length_walk_all now old states same = length_map seen (walk now old states) ∙ (length_in_order (walked now) [] (zip old states) ∙ (length-zip old states ∙ (omega arith)))
+length_walk_all now old states same = length-map (walk now old states) seen ∙ (length-in_order (walked now) [] (zip old states) ∙ (length-zip old states ∙ (omega arith)))
 
 pub place_below : (now : Time) (old : List ChildFacts) (states : List State) (place : ℕ) → length states ≡ length old → 0 < length old → place ≡ chosen (map seen (walk now old states)) → place < length old
 place_below now old states place same some is =

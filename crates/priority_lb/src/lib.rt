@@ -8,3 +8,6 @@ pub mod view;
 
 pub use children::Children;
 pub use view::ChildView;
+
+#[cfg(test)]
+mod tests;
