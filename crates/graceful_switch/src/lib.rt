@@ -4,3 +4,6 @@
 pub mod switch;
 
 pub use switch::{Serves, Switch};
+
+#[cfg(test)]
+mod tests;
