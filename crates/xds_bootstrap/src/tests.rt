@@ -119,19 +119,21 @@ fn is_entry(entry: &AuthorityEntry, name: &str, uri: &str, template: &str) -> bo
         && entry.template.as_str() == template
 }
 
+fn has_template(alloc: Global, members: &str, template: &str) -> Result<bool, Fail> {
+    let found = boot(alloc, members)?;
+    match found.authorities.as_slice().first() {
+        Some(entry) => Ok(is_entry(entry, "", "ms:1", template)),
+        None => Ok(false),
+    }
+}
+
 #[test]
 fn the_default_template_is_the_name(rt: HostRuntime) -> Result<(), Fail> {
     let alloc = rt.alloc();
-    let empty = boot(
-        alloc,
-        "\"client_default_listener_resource_name_template\":\"\"",
-    )?;
-    assert!(rt; is_entry(empty.authorities.at(0), "", "ms:1", "%s"));
-    let given = boot(
-        alloc,
-        "\"client_default_listener_resource_name_template\":\"x/%s\",\"other\":1",
-    )?;
-    assert!(rt; is_entry(given.authorities.at(0), "", "ms:1", "x/%s"));
+    let empty = "\"client_default_listener_resource_name_template\":\"\"";
+    assert!(rt; has_template(alloc, empty, "%s")?);
+    let given = "\"client_default_listener_resource_name_template\":\"x/%s\",\"other\":1";
+    assert!(rt; has_template(alloc, given, "x/%s")?);
     Ok(())
 }
 
