@@ -8,3 +8,6 @@ pub mod states;
 pub use pick::{choose, endpoint, make_picker};
 pub use picker::{Chosen, Part, PickBody, Picker};
 pub use states::{locality_state, weighted_state};
+
+#[cfg(test)]
+mod tests;
