@@ -8,6 +8,3 @@ pub mod states;
 pub use pick::{choose, endpoint, make_picker};
 pub use picker::{Chosen, Part, PickBody, Picker};
 pub use states::{locality_state, weighted_state};
-
-#[cfg(test)]
-mod tests;
