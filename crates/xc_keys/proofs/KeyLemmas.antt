@@ -1,5 +1,5 @@
 -- The laws of the order of keys.
-use Rattle.std.proofs.Common.{◌≡◌, ℕ, Bool, true, false, cond, List, [], ◌∷◌, Option, Some, refl, sym, ap, ◌∙◌, arith, Ordering}
+use Rattle.std.proofs.Common.{◌≡◌, ℕ, true, cond, List, [], ◌∷◌, Option, Some, refl, sym, ap, ◌∙◌, arith, Ordering}
 use Rattle.std.specs.declared.cmp.Ordering.TheVariants.{Less, Equal, Greater}
 use Rattle.std.specs.Cmp.{IsTotalOrder, IsEquivalence}
 use Rattle.std.specs.Cmp.Lexicographic.{slice_cmp}
@@ -122,7 +122,7 @@ pub key_itself : (key : Key) → is_key key key ≡ true
 key_itself key = is_key_equiv.refl key
 
 -- the order that the type's own comparison has
-abbrev order_of : {K : Type 0} {R : K → K → Ordering} → IsTotalOrder R → K → K → Ordering
+abbrev pub order_of : {K : Type 0} {R : K → K → Ordering} → IsTotalOrder R → K → K → Ordering
 order_of {K} {R} total = R
 
 abbrev pub derived_cmp : Key → Key → Ordering

@@ -1,6 +1,5 @@
 -- Spans of time, one event on.
-use Rattle.std.proofs.Common.{◌≡◌, ◌⊎◌, inl, inr, List, [], ◌∷◌, ◌++◌, refl, sym, ap, ◌∙◌, subst}
-use Rattle.std.specs.Prelude.{Contains}
+use Rattle.std.proofs.Common.{◌≡◌, inl, inr, List, [], ◌∷◌, ◌++◌, refl, sym, ap, ◌∙◌, subst}
 use Rattle.xc_keys.proofs.MemberLemmas.{no_member, here, there, at_first}
 use Rattle.xc_keys.specs.Spans.{HasEnd, IsOver, IsSince}
 
