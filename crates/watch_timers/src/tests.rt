@@ -20,7 +20,12 @@ fn keys(alloc: Global, names: &[(Kind, &str)]) -> Result<List<Key>, Fail> {
     Ok(list)
 }
 
-fn takes(alloc: Global, timers: &mut Timers, now: u64, names: &[(Kind, &str)]) -> Result<bool, Fail> {
+fn takes(
+    alloc: Global,
+    timers: &mut Timers,
+    now: u64,
+    names: &[(Kind, &str)],
+) -> Result<bool, Fail> {
     let wanted = keys(alloc, names)?;
     Ok(timers.due(Time(now))? == wanted)
 }

@@ -45,7 +45,11 @@ fn has_run_out(at: Time, now: Time) -> bool
 }
 
 /// A copy of each timer that has run out.
-fn copies_of_due(alloc: Global, running: &[(&Key, &Time)], now: Time) -> Result<Vec<Started>, Memory>
+fn copies_of_due(
+    alloc: Global,
+    running: &[(&Key, &Time)],
+    now: Time,
+) -> Result<Vec<Started>, Memory>
     ensures { IfOk result (λ due. due.items ≡ due_of now (map (λ entry. (entry.0.now, entry.1.now)) running.now)) }
 {
     let mut due = Vec::new(alloc);
