@@ -1,0 +1,9 @@
+pub mod Assignments
+pub mod ClusterTable
+pub mod Fractions
+pub mod HeaderTable
+pub mod ListenerTable
+pub mod Names
+pub mod Resources
+pub mod RouteTable
+pub mod Steps

@@ -1,0 +1,12 @@
+//! The check of a resource: a checked value, or the first reason against it (gRFC A27, A28, A37, A47). So far
+//! it has the tables of checks as definitions, the steps that they share, and the reading of a resource.
+#![tactic(auto)]
+
+pub mod fault;
+pub mod raw;
+pub mod resource;
+pub mod steps;
+
+pub use fault::{CheckFault, Fault, Refusal, Stop};
+pub use raw::{Found, Raw, read_raw};
+pub use resource::Checked;
