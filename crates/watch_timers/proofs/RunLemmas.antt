@@ -1,16 +1,15 @@
 -- What runs after every list of calls.
-use Rattle.std.proofs.Common.{◌≡◌, ◌⊎◌, inl, inr, ℕ, Bool, true, false, cond, List, [], ◌∷◌, map, refl, sym, ap, ◌∙◌, subst, Option, Some, None}
+use Rattle.std.proofs.Common.{◌≡◌, ◌⊎◌, inl, inr, Bool, true, false, cond, List, [], ◌∷◌, refl, sym, ap, ◌∙◌, subst, Some, None}
 use Rattle.std.specs.Prelude.{◌↔◌, Contains, unwrap_or}
 use Rattle.xc_base.specs.declared.names.Key.{Key}
 use Rattle.xc_base.specs.declared.names.Time.{Time}
 use Rattle.xc_keys.specs.Keys.{is_key}
-use Rattle.xc_keys.specs.Spans.{IsOver, IsSince}
+use Rattle.xc_keys.specs.Spans.{IsOver}
 use Rattle.xc_keys.proofs.KeyLemmas.{same_key, key_itself}
 use Rattle.xc_keys.proofs.MemberLemmas.{mapped, from_mapped}
 use Rattle.xc_keys.proofs.SpanLemmas.{over_none, over_end, over_more, since_first, since_more, never_both, one_since}
-use Rattle.watch_timers.specs.declared.timers.Started.{Started}
-use Rattle.watch_timers.specs.Timers.{Running, started_at, has_run, runs_on, TakesDue, Starts, Stops}
-use Rattle.watch_timers.specs.Runs.{Event, start, cancel, due, Step, After, StartsKey, StopsKey, IsRunning, AreDue, RunAsStarted}
+use Rattle.watch_timers.specs.Timers.{Running, started_at, has_run, runs_on, TakesDue}
+use Rattle.watch_timers.specs.Runs.{Event, start, cancel, due, After, StartsKey, StopsKey, IsRunning, RunAsStarted}
 
 -- the key's timer runs as the calls say, or doesn't run, as they say
 abbrev Found : List Event → Running → Key → Type 0

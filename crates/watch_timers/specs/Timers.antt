@@ -1,6 +1,6 @@
 -- How long resources are waited for (Envoy's xDS protocol, "Knowing When a Requested Resource Does Not
 -- Exist", which recommends 15 seconds).
-use Rattle.std.specs.Prelude.{◌≡◌, ◌↔◌, ℕ, ◌+◌, List, map, filter, Contains, Bool, true, not, nat_le, Option, Some, None, unwrap_or, if◌then◌else◌}
+use Rattle.std.specs.Prelude.{◌≡◌, ◌↔◌, ◌+◌, List, map, filter, Contains, Bool, true, nat_le, Option, Some, None, unwrap_or, if◌then◌else◌}
 use Rattle.std.specs.declared.cmp.Ordering.{Ordering}
 use Rattle.std.specs.Ordering.{nat_cmp, on, then_cmp}
 use Rattle.std.specs.List.Sorted.{IsStrictlySortedBy}

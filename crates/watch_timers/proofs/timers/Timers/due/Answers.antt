@@ -1,4 +1,4 @@
-use Rattle.std.proofs.Common.{refl, subst}
+use Rattle.std.proofs.Common.{subst}
 use Rattle.watch_timers.specs.Timers.{TakesDue}
 use Rattle.watch_timers.proofs.DueLemmas.{takes_due}
 use Rattle.watch_timers.proofs.timers.Timers.due.Goals as goal

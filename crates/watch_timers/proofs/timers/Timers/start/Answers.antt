@@ -1,4 +1,4 @@
-use Rattle.std.proofs.Common.{◌≡◌, Bool, false, Option, Some, None, refl, sym, ◌∙◌, ap, rules}
+use Rattle.std.proofs.Common.{◌≡◌, false, Option, Some, None, refl, sym, ◌∙◌, ap, rules}
 use Rattle.std.specs.Prelude.{is_some}
 use Rattle.xc_keys.proofs.KeyLemmas.{found_alike, changed_alike}
 use Rattle.watch_timers.proofs.DueLemmas.{starts_again, starts_first}
