@@ -1,4 +1,3 @@
-#!/usr/bin/env python3
 """bench/calls.py [--runs N] [--most RATIO]: the time of sessions of 10,000 and 100,000 lines of calls, and their ratio.
 
 A session has at most 65,536 call numbers, and each may start once. So what is counted are the lines of the

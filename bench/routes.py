@@ -1,4 +1,3 @@
-#!/usr/bin/env python3
 """bench/routes.py [--runs N] [--calls N]: calls per second that are matched against 10, 100 and 1,000 routes.
 
 One response publishes so many routes, of which the last alone fits the calls; so each call tries them all.

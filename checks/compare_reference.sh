@@ -1,4 +1,3 @@
-#!/usr/bin/env bash
 # Compares the program with a reference program over 500 random sessions of the first path: the reports,
 # standard error and the statuses are byte for byte the same. XDS_REFERENCE names the folder of the reference.
 set -euo pipefail

@@ -1,4 +1,3 @@
-#!/usr/bin/env bash
 # Plays each session of examples/: the report, standard error and the status are byte for byte those that
 # stand beside it.
 set -eu

@@ -1,4 +1,3 @@
-#!/usr/bin/env bash
 # Compares the reading of responses and the writing of requests with protoc (Debian's protobuf-compiler)
 # over 50 random messages.
 set -eu

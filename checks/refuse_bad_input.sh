@@ -1,4 +1,3 @@
-#!/usr/bin/env bash
 # Runs the program on words and bytes that aren't a session that is played: each has its status and its named
 # cause on standard error, and no part of a report. A source and a sink that fail are told apart from these.
 set -eu

@@ -1,4 +1,3 @@
-#!/usr/bin/env python3
 """tests/read_protobuf.py SHOW: compares the reading of responses and the writing of requests with protoc.
 
 SHOW is the program show_discovery. Of 25 random responses, some in two parts or with unknown fields, the

@@ -1,4 +1,3 @@
-#!/usr/bin/env python3
 """Writes a data line for a session: the frame of a response with one Listener and its routes.
 
     python3 tools/data_line.py svc path:/shop.Cart/Add=cart prefix:/shop.=shop

@@ -1,5 +1,5 @@
 //! Steps that several tables of checks share.
-ghost use Rattle.std.specs.Prelude.{◌<◌, ◌^◌, OnOk};
+ghost use Rattle.std.specs.Prelude.{◌<◌, ◌≤◌, ◌^◌, OnErr, OnOk};
 ghost use Rattle.resource_check.specs.Steps.{Tells, demand, readable};
 
 use crate::fault::Fault;
@@ -37,7 +37,8 @@ pub fn read<M: Message + Drop>(alloc: Global, bytes: &[u8]) -> Result<M, Fault>
 
 /// Lists whose members a u32 names have fewer than 2^31 members.
 pub fn few(count: usize) -> Result<(), Memory>
-    ensures { OnOk result (count < 2 ^ 31) }
+    ensures few { OnOk result (count < 2 ^ 31) }
+    ensures many { OnErr result (2 ^ 31 ≤ count) }
 {
     if count < 1 << 31 {
         Ok(())
