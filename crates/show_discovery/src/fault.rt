@@ -1,4 +1,7 @@
 //! Why nothing is shown.
+ghost use Rattle.std.specs.Prelude.{◌≡◌};
+ghost use Rattle.show_discovery.specs.declared.fault.Fault.TheVariants.{Memory, Write};
+
 use hex::FromHexError;
 use proto_wire::WireFault;
 use std::alloc::{AllocError, AllocFailed};
@@ -22,12 +25,16 @@ pub enum Fault {
 }
 
 impl From<AllocError> for Fault {
+    ghost from_gives = { λ _ fault. fault ≡ Memory };
+
     fn from(_: AllocError) -> Self {
         Fault::Memory
     }
 }
 
 impl<T: Drop> From<AllocFailed<T>> for Fault {
+    ghost from_gives = { λ _ fault. fault ≡ Memory };
+
     fn from(_: AllocFailed<T>) -> Self {
         Fault::Memory
     }
@@ -43,6 +50,8 @@ impl From<ReadFault> for Fault {
 }
 
 impl From<Failed> for Fault {
+    ghost from_gives = { λ _ fault. fault ≡ Write };
+
     fn from(_: Failed) -> Self {
         Fault::Write
     }
