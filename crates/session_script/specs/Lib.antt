@@ -1,0 +1,9 @@
+pub mod Causes
+pub mod Lines
+pub mod Forms
+pub mod Before
+pub mod Values
+pub mod Works
+pub mod Views
+pub mod Session
+pub mod Kept
