@@ -1,5 +1,7 @@
 mod CountLemmas
 pub mod FieldLemmas
+mod FrameLemmas
+mod RoomLemmas
 mod KeptLemmas
 pub mod LineLemmas
 mod SessionLemmas

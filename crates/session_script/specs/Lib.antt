@@ -7,3 +7,5 @@ pub mod Works
 pub mod Views
 pub mod Session
 pub mod Kept
+pub mod Plan
+pub mod Law

@@ -1,6 +1,7 @@
 //! How many entries a session makes.
 ghost use Rattle.std.specs.Prelude.{◌≡◌, ◌+◌, ◌≤◌};
 ghost use Rattle.session_script.specs.Before.{entries};
+ghost use Rattle.session_script.specs.Law.{HasRoom};
 
 use crate::session::{Line, Session};
 
@@ -16,11 +17,13 @@ fn entries(lines: &[Line]) -> u32
     entries
 }
 
-/// The greatest number of entries that the session's history has: one for each line, one more for every five
-/// bytes of data that are begun and for each start, and one for the last sweep.
+/// The greatest number of entries that a history of the session has: one for each line, one more for every five
+/// bytes of data that are begun and for each start, and one for the last sweep. It takes no memory. The session
+/// makes at most 1,048,576 entries by this count, as each one does that `read_session` gives.
 pub fn room(session: &Session) -> u32
     requires few { entries session.now.lines + 1 ≤ 1048576 }
-    ensures { result ≡ entries session.now.lines + 1 }
+    ensures count { result ≡ entries session.now.lines + 1 }
+    ensures enough { HasRoom session.now result }
 {
     entries(session.lines.as_slice()) + 1
 }
