@@ -1,0 +1,15 @@
+//! What became of each watched resource: its fate, by the order in which valid and invalid deliveries, deletions and
+//! expiries came since it is watched (Envoy's xDS protocol, "ACK and NACK", "Deleting Resources" and "Knowing
+//! When a Requested Resource Does Not Exist").
+#![tactic(auto)]
+
+pub mod cache;
+pub mod fate;
+pub mod laws;
+
+pub use cache::Cache;
+pub use fate::{Fate, Known};
+pub use laws::fates_follow_calls;
+
+#[cfg(test)]
+mod tests;
