@@ -5,6 +5,9 @@ pub mod pick;
 pub mod picker;
 pub mod states;
 
-pub use pick::{choose, endpoint, make_picker};
+pub use pick::{choose, copy_rules, endpoint, make_picker};
 pub use picker::{Chosen, Part, PickBody, Picker};
 pub use states::{locality_state, weighted_state};
+
+#[cfg(test)]
+mod tests;

@@ -21,12 +21,13 @@ pub fn make_picker(
 {
     let sums = sums_of(alloc, parts.as_slice())?;
     Ok(Picker {
-        drops: copied(alloc, drops.as_slice())?,
+        drops: copy_rules(alloc, drops.as_slice())?,
         body: PickBody::Ready { parts, sums },
     })
 }
 
-fn copied(alloc: Global, drops: &[DropRule]) -> Result<List<DropRule>, Memory>
+/// A copy of drop rules.
+pub fn copy_rules(alloc: Global, drops: &[DropRule]) -> Result<List<DropRule>, Memory>
     ensures { IfOk result (λ copies. copies ≡ drops.now) }
 {
     let mut copies = List::new(alloc);

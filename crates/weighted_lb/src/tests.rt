@@ -1,0 +1,94 @@
+//! Picks that are played. What no clause says is that a picker is made with ample memory.
+ghost use Rattle.std.specs.Prelude.{◌≡◌, ◌<◌, ◌∷◌, [], length, All, IfOk};
+ghost use Rattle.weighted_lb.specs.Pick.{weights_of, IsMade};
+
+use crate::{Chosen, Part, Picker, choose, endpoint, locality_state, make_picker, weighted_state};
+use std::alloc::Global;
+use std::test::Fail;
+use weight_pick::{DropRule, Fraction};
+use xc_base::{List, State, Text, address};
+
+fn part(alloc: Global, locality: u32, weight: u32) -> Result<Part, Fail>
+    ensures weight { IfOk result (λ part. part.weight ≡ weight) }
+    ensures ready { IfOk result (λ part. length part.ready ≡ 1) }
+{
+    let mut ready = List::new(alloc);
+    ready.push(address(alloc, "10.0.0.1:80")?)?;
+    Ok(Part {
+        locality,
+        weight,
+        ready,
+    })
+}
+
+// A locality of weight 1 before one that has nearly all of it.
+fn parts(alloc: Global) -> Result<List<Part>, Fail>
+    ensures weights { IfOk result (λ parts. weights_of parts ≡ 1 ∷ 4294967294 ∷ []) }
+    ensures ready { IfOk result (λ parts. All (λ part. 0 < length part.ready) parts) }
+    ensures count { IfOk result (λ parts. length parts ≡ 2) }
+{
+    let mut parts = List::new(alloc);
+    parts.push(part(alloc, 0, 1)?)?;
+    parts.push(part(alloc, 1, 4_294_967_294)?)?;
+    Ok(parts)
+}
+
+// Half of the calls are dropped.
+fn rules(alloc: Global) -> Result<List<DropRule>, Fail>
+    ensures { IfOk result (λ rules. length rules ≡ 1) }
+{
+    let mut rules = List::new(alloc);
+    rules.push(DropRule {
+        category: Text::from_str(alloc, "shed")?,
+        fraction: Fraction { n: 50, of: 100 },
+    })?;
+    Ok(rules)
+}
+
+fn picker(alloc: Global, rules: &List<DropRule>) -> Result<Picker, Fail>
+    ensures made { IfOk result (λ picker. IsMade picker.body) }
+    ensures rules { IfOk result (λ picker. picker.drops ≡ rules.now) }
+{
+    let parts = parts(alloc)?;
+    Ok(make_picker(alloc, rules, parts)?)
+}
+
+#[test]
+fn the_locality_is_chosen_by_weight(rt: HostRuntime) -> Result<(), Fail> {
+    let picker = picker(rt.alloc(), &List::new(rt.alloc()))?;
+    assert_eq!(rt; choose(&picker, 0), Chosen::Part(0));
+    assert_eq!(rt; choose(&picker, 1 << 32), Chosen::Part(0));
+    assert_eq!(rt; choose(&picker, 2 << 32), Chosen::Part(1));
+    assert_eq!(rt; choose(&picker, u64::MAX), Chosen::Part(1));
+    Ok(())
+}
+
+#[test]
+fn drop_rules_come_first(rt: HostRuntime) -> Result<(), Fail> {
+    let picker = picker(rt.alloc(), &rules(rt.alloc())?)?;
+    assert_eq!(rt; choose(&picker, 7_046_029_254_386_353_131), Chosen::Drop(1));
+    assert_eq!(rt; choose(&picker, 0), Chosen::Part(0));
+    Ok(())
+}
+
+#[test]
+fn endpoints_take_turns(rt: HostRuntime) -> Result<(), Fail> {
+    let mut part = part(rt.alloc(), 0, 1)?;
+    part.ready.push(address(rt.alloc(), "10.0.0.2:80")?)?;
+    assert_eq!(rt; endpoint(&part, 0), 0);
+    assert_eq!(rt; endpoint(&part, 3), 1);
+    Ok(())
+}
+
+#[test]
+fn the_best_state_counts(rt: HostRuntime) {
+    assert_eq!(rt; locality_state(&[]), State::Failing);
+    assert_eq!(rt;
+        locality_state(&[State::Failing, State::Connecting]),
+        State::Connecting
+    );
+    assert_eq!(rt;
+        weighted_state(&[State::Connecting, State::Ready]),
+        State::Ready
+    );
+}
