@@ -1,6 +1,8 @@
 mod CountLemmas
 pub mod FieldLemmas
+mod FormLemmas
 mod FrameLemmas
+mod TableLemmas
 mod RoomLemmas
 mod KeptLemmas
 pub mod LineLemmas

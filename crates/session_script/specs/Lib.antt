@@ -9,3 +9,4 @@ pub mod Session
 pub mod Kept
 pub mod Plan
 pub mod Law
+pub mod Table

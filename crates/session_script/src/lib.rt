@@ -7,6 +7,7 @@ mod counting;
 mod fields;
 mod forms;
 pub mod head;
+pub mod laws;
 mod lines;
 mod reader;
 pub mod reading;
@@ -17,6 +18,7 @@ mod words;
 
 pub use cause::{Cause, SessionFault};
 pub use counting::room;
+pub use laws::{faults_are_in_order, forms_are_listed};
 pub use reading::read_session;
 pub use session::{Act, DriverLine, Line, Session, Work};
 
