@@ -1,5 +1,5 @@
 -- A stream, step by step (Envoy's xDS protocol, "ACK and NACK" and "Aggregated Discovery Service").
-use Rattle.std.specs.Prelude.{◌==◌, ◌||◌, List, [], ◌∷◌, ◌++◌, ℕ, length, Bool, true, false, not, Option, Some, None, is_some, if◌then◌else◌}
+use Rattle.std.specs.Prelude.{◌≡◌, ◌↔◌, ◌==◌, ◌||◌, List, [], ◌∷◌, ◌++◌, ℕ, length, Bool, true, false, not, Option, Some, None, is_some, if◌then◌else◌}
 use Rattle.std.specs.Cmp.Lexicographic.{pointwise}
 use Rattle.proto_discovery.specs.declared.request.Request.{Request}
 use Rattle.xc_base.specs.declared.call.Node.{Node}
@@ -46,6 +46,10 @@ responded s version nonce error = if is_some s.asked then answered s version non
 
 abbrev pub are_same : List Text → List Text → Bool
 are_same names others = pointwise (pointwise ◌==◌) names others
+
+-- that test finds what is equal
+abbrev pub TellsNamesApart : Type 0
+TellsNamesApart = (names others : List Text) → (are_same names others ≡ true) ↔ (names ≡ others)
 
 -- the names aren't those of the last request; before any request those count as none
 abbrev pub differs : Option (List Text) → List Text → Bool

@@ -7,7 +7,7 @@ pub mod stream;
 pub mod subscription;
 pub mod verdict;
 
-pub use laws::requests_follow_calls;
+pub use laws::{names_are_told_apart, requests_follow_calls};
 pub use names::Names;
 pub use stream::{Stream, StreamState};
 pub use subscription::{Answer, Subscription};

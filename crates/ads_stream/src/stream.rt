@@ -26,8 +26,8 @@ pub struct StreamState {
 }
 
 impl StreamState {
-    /// What is known of one kind.
-    pub fn of(&self, kind: Kind) -> &Subscription
+    // What is known of one kind.
+    fn of(&self, kind: Kind) -> &Subscription
         ensures { result.now ≡ of_kind self.now kind }
     {
         match kind {

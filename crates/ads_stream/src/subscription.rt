@@ -60,7 +60,7 @@ fn verdict_by(kind: Kind, error: Option<&Text>) -> Verdict
 
 impl Subscription {
     /// One for which nothing was asked and nothing came.
-    pub fn new() -> Subscription
+    pub(crate) fn new() -> Subscription
         ensures { result ≡ fresh }
     {
         Subscription {
@@ -72,15 +72,13 @@ impl Subscription {
     }
 
     /// Forgets what was of the stream. The version stays.
-    pub fn reopen(&mut self)
+    pub(crate) fn reopen(&mut self)
         ensures { self.new ≡ reopened self.old }
     {
         let version = replace(&mut self.version, Text::new());
         *self = Subscription {
             version,
-            nonce: Text::new(),
-            asked: None,
-            answer: None,
+            ..Subscription::new()
         };
     }
 
@@ -113,7 +111,7 @@ impl Subscription {
 
     /// Takes in a response. It is ignored exactly where nothing of the kind was asked on the stream, and refused
     /// exactly where an error is given.
-    pub fn respond(
+    pub(crate) fn respond(
         &mut self,
         kind: Kind,
         version: &Text,
@@ -142,7 +140,7 @@ impl Subscription {
     }
 
     /// Whether a request is due: a response is to be answered, or the names differ.
-    pub fn is_due(&self, names: &List<Text>) -> bool
+    pub(crate) fn is_due(&self, names: &List<Text>) -> bool
         ensures { result ≡ is_due self.now names.now }
     {
         self.answer.is_some() || self.differs(names)
@@ -159,7 +157,7 @@ impl Subscription {
     }
 
     /// The request for these names.
-    pub fn request(
+    pub(crate) fn request(
         &self,
         kind: Kind,
         names: &List<Text>,
@@ -193,7 +191,11 @@ impl Subscription {
     }
 
     /// The same once the request that is due has been sent.
-    pub fn asked_for(&self, alloc: Global, names: &List<Text>) -> Result<Subscription, Memory>
+    pub(crate) fn asked_for(
+        &self,
+        alloc: Global,
+        names: &List<Text>,
+    ) -> Result<Subscription, Memory>
         ensures { IfOk result (λ s. s ≡ asked_for self.now names.now) }
     {
         Ok(Subscription {
