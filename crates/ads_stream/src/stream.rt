@@ -1,0 +1,218 @@
+//! The stream of one authority.
+ghost use Rattle.std.specs.Prelude.{◌≡◌, IfOk, OnOk, OnErr};
+ghost use Rattle.std.specs.Option.{option_copied};
+ghost use Rattle.ads_stream.specs.Streams.{unopened, restarted, opened, lost, of_kind, verdict_of, response_taken, greeting, with_request, told, requests_due, names_told};
+
+use crate::names::Names;
+use crate::subscription::Subscription;
+use crate::verdict::Verdict;
+use proto_discovery::Request;
+use std::alloc::Global;
+use std::marker::Model;
+use xc_base::{Kind, List, Memory, Node, Text};
+
+/// Where a stream stands.
+#[derive(Debug, Drop)]
+pub struct StreamState {
+    /// Who asks.
+    pub node: Node,
+    pub is_up: bool,
+    /// Whether a request was sent on it, the first of which tells the node.
+    pub is_greeted: bool,
+    pub listener: Subscription,
+    pub route: Subscription,
+    pub cluster: Subscription,
+    pub endpoint: Subscription,
+}
+
+impl StreamState {
+    // What is known of one kind.
+    fn of(&self, kind: Kind) -> &Subscription
+        ensures { result.now ≡ of_kind self.now kind }
+    {
+        match kind {
+            Kind::Listener => &self.listener,
+            Kind::Route => &self.route,
+            Kind::Cluster => &self.cluster,
+            Kind::Endpoint => &self.endpoint,
+        }
+    }
+
+    // The same once the requests for these names have been sent.
+    fn told(
+        &self,
+        alloc: Global,
+        now_watched: &Names,
+        is_greeted: bool,
+    ) -> Result<StreamState, Memory>
+        ensures { IfOk result (λ state. state ≡ told self.now now_watched.now is_greeted) }
+    {
+        Ok(StreamState {
+            node: self.node.clone()?,
+            is_up: self.is_up,
+            is_greeted,
+            listener: self.listener.asked_for(alloc, &now_watched.listener)?,
+            route: self.route.asked_for(alloc, &now_watched.route)?,
+            cluster: self.cluster.asked_for(alloc, &now_watched.cluster)?,
+            endpoint: self.endpoint.asked_for(alloc, &now_watched.endpoint)?,
+        })
+    }
+}
+
+/// One authority's stream, which contracts see as where it stands. `names` is called after each other call, and gives
+/// the requests that are due by then.
+#[derive(Drop)]
+pub struct Stream {
+    alloc: Global,
+    state: StreamState,
+}
+
+impl Model for Stream {
+    ghost use Rattle.ads_stream.specs.declared.stream.StreamState.{StreamState};
+
+    ghost Value = { StreamState };
+
+    ghost view = { λ s. s.state };
+}
+
+impl Stream {
+    /// A stream that was never opened. It takes no memory.
+    pub fn new(alloc: Global, node: Node) -> Stream
+        ensures { result ≡ unopened node }
+    {
+        Stream {
+            alloc,
+            state: StreamState {
+                node,
+                is_up: false,
+                is_greeted: false,
+                listener: Subscription::new(),
+                route: Subscription::new(),
+                cluster: Subscription::new(),
+                endpoint: Subscription::new(),
+            },
+        }
+    }
+
+    /// Whether it is open.
+    pub fn is_up(&self) -> bool
+        ensures { result ≡ self.now.is_up }
+    {
+        self.state.is_up
+    }
+
+    // Forgets what was of the stream.
+    fn restart(&mut self, is_up: bool)
+        ensures { self.new ≡ restarted self.old is_up }
+    {
+        self.state.is_up = is_up;
+        self.state.is_greeted = false;
+        self.state.listener.reopen();
+        self.state.route.reopen();
+        self.state.cluster.reopen();
+        self.state.endpoint.reopen();
+    }
+
+    /// The stream was opened, in place of the one that was open, if any. Versions stay; nonces and sent names are of
+    /// the old stream. It takes no memory.
+    pub fn opened(&mut self)
+        ensures { self.new ≡ opened self.old }
+    {
+        self.restart(true);
+    }
+
+    /// The stream was lost. False exactly where it wasn't open. It takes no memory.
+    pub fn lost(&mut self) -> bool
+        ensures was_up { result ≡ self.old.is_up }
+        ensures state { self.new ≡ lost self.old }
+    {
+        let was_up = self.state.is_up;
+        self.restart(false);
+        was_up
+    }
+
+    /// Takes in a response, with the text of the refusal where one of its resources is refused. It is closed exactly
+    /// where the stream isn't open, else ignored exactly where nothing of the kind was asked for on it, and else
+    /// refused exactly where an error is given.
+    pub fn response(
+        &mut self,
+        kind: Kind,
+        version: &Text,
+        nonce: &Text,
+        error: Option<&Text>,
+    ) -> Result<Verdict, Memory>
+        ensures verdict { IfOk result (λ verdict. verdict ≡ verdict_of self.old kind (option_copied error.entry)) }
+        ensures ok { OnOk result (self.new ≡ response_taken self.old kind version.now nonce.now (option_copied error.entry)) }
+        ensures err { OnErr result (self.new ≡ self.old) }
+    {
+        if !self.state.is_up {
+            return Ok(Verdict::Closed);
+        }
+        match kind {
+            Kind::Listener => self.state.listener.respond(kind, version, nonce, error),
+            Kind::Route => self.state.route.respond(kind, version, nonce, error),
+            Kind::Cluster => self.state.cluster.respond(kind, version, nonce, error),
+            Kind::Endpoint => self.state.endpoint.respond(kind, version, nonce, error),
+        }
+    }
+
+    // The node, where this is the first request on the stream.
+    fn greeting(&self, before: &List<Request>) -> Result<Option<Node>, Memory>
+        ensures { IfOk result (λ node. node ≡ greeting self.now before.now) }
+    {
+        if self.state.is_greeted || !before.as_slice().is_empty() {
+            Ok(None)
+        } else {
+            Ok(Some(self.state.node.clone()?))
+        }
+    }
+
+    // Adds the request of this kind, where one is due.
+    fn add_request(
+        &self,
+        kind: Kind,
+        names: &List<Text>,
+        requests: &mut List<Request>,
+    ) -> Result<(), Memory>
+        ensures { OnOk result (requests.new ≡ with_request self.now kind names.now requests.old) }
+    {
+        let subscription = self.state.of(kind);
+        if subscription.is_due(names) {
+            let node = self.greeting(requests)?;
+            requests.push(subscription.request(kind, names, node)?)?;
+        }
+        Ok(())
+    }
+
+    // The requests that are due.
+    fn requests(&self, now_watched: &Names) -> Result<List<Request>, Memory>
+        ensures { IfOk result (λ requests. requests ≡ requests_due self.now now_watched.now) }
+    {
+        let mut requests = List::new(self.alloc);
+        if self.state.is_up {
+            self.add_request(Kind::Listener, &now_watched.listener, &mut requests)?;
+            self.add_request(Kind::Route, &now_watched.route, &mut requests)?;
+            self.add_request(Kind::Cluster, &now_watched.cluster, &mut requests)?;
+            self.add_request(Kind::Endpoint, &now_watched.endpoint, &mut requests)?;
+        }
+        Ok(requests)
+    }
+
+    /// The requests that are due, by kind: where a response of the kind was answered since the last `names`, or where
+    /// the names differ from those of the last request on this stream. Each has the version of the last accepted
+    /// response, the nonce of the last answered one on this stream, the names, and the text of a refusal; the
+    /// first on the stream has the node. There are none where the stream isn't open.
+    pub fn names(&mut self, now_watched: &Names) -> Result<List<Request>, Memory>
+        ensures due { IfOk result (λ requests. requests ≡ requests_due self.old now_watched.now) }
+        ensures ok { OnOk result (self.new ≡ names_told self.old now_watched.now) }
+        ensures err { OnErr result (self.new ≡ self.old) }
+    {
+        let requests = self.requests(now_watched)?;
+        if !self.state.is_up {
+            return Ok(requests);
+        }
+        let is_greeted = self.state.is_greeted || !requests.as_slice().is_empty();
+        self.state = self.state.told(self.alloc, now_watched, is_greeted)?;
+        Ok(requests)
+    }
+}

@@ -1,0 +1,208 @@
+//! What is known of one kind of resources on a stream.
+ghost use Rattle.std.specs.Prelude.{◌≡◌, [], IfOk, OnOk, OnErr};
+ghost use Rattle.std.specs.Option.{option_copied};
+ghost use Rattle.ads_stream.specs.Streams.{fresh, reopened, verdict_by, verdict_on, version_after, answered, responded, differs, is_due, error_of, request_of, asked_with, asked_for};
+
+use crate::verdict::Verdict;
+use proto_discovery::Request;
+use std::alloc::Global;
+use std::mem::replace;
+use xc_base::{Kind, List, Memory, Node, Shared, Text};
+
+/// The answer to a response that hasn't been sent.
+#[derive(Debug, Drop)]
+pub struct Answer {
+    /// The text of the refusal, where the response is refused.
+    pub error: Option<Text>,
+}
+
+/// What a stream knows of one kind of resources.
+#[derive(Debug, Drop)]
+pub struct Subscription {
+    /// The version of the last accepted response, on whichever stream, or empty before any.
+    pub version: Text,
+    /// The nonce of the last response that was answered on this stream, or empty before any.
+    pub nonce: Text,
+    /// The names of the last request that was sent on this stream.
+    pub asked: Option<Shared<List<Text>>>,
+    /// What the last response is to be answered.
+    pub answer: Option<Answer>,
+}
+
+// A copy of the names.
+fn copy_of(names: &List<Text>) -> Result<List<Text>, Memory>
+    ensures { IfOk result (λ copy. copy ≡ names.now) }
+{
+    names.clone()
+}
+
+// The answer to a response.
+fn answer_to(error: Option<&Text>) -> Result<Answer, Memory>
+    ensures { IfOk result (λ answer. answer ≡ record { error = option_copied error.entry }) }
+{
+    match error {
+        Some(text) => Ok(Answer {
+            error: Some(text.clone()?),
+        }),
+        None => Ok(Answer { error: None }),
+    }
+}
+
+// What becomes of a response that is answered.
+fn verdict_by(kind: Kind, error: Option<&Text>) -> Verdict
+    ensures { result ≡ verdict_by kind (option_copied error.entry) }
+{
+    match error {
+        Some(_) => Verdict::Nack(kind),
+        None => Verdict::Ack(kind),
+    }
+}
+
+impl Subscription {
+    /// One for which nothing was asked and nothing came.
+    pub(crate) fn new() -> Subscription
+        ensures { result ≡ fresh }
+    {
+        Subscription {
+            version: Text::new(),
+            nonce: Text::new(),
+            asked: None,
+            answer: None,
+        }
+    }
+
+    /// Forgets what was of the stream. The version stays.
+    pub(crate) fn reopen(&mut self)
+        ensures { self.new ≡ reopened self.old }
+    {
+        let version = replace(&mut self.version, Text::new());
+        *self = Subscription {
+            version,
+            ..Subscription::new()
+        };
+    }
+
+    // The version after an answered response.
+    fn version_after(&self, version: &Text, error: Option<&Text>) -> Result<Text, Memory>
+        ensures { IfOk result (λ text. text ≡ version_after self.now.version version.now (option_copied error.entry)) }
+    {
+        match error {
+            Some(_) => self.version.clone(),
+            None => version.clone(),
+        }
+    }
+
+    // The same after an answered response.
+    fn answered(
+        &self,
+        version: &Text,
+        nonce: &Text,
+        error: Option<&Text>,
+    ) -> Result<Subscription, Memory>
+        ensures { IfOk result (λ s. s ≡ answered self.now version.now nonce.now (option_copied error.entry)) }
+    {
+        Ok(Subscription {
+            version: self.version_after(version, error)?,
+            nonce: nonce.clone()?,
+            asked: self.asked.clone()?,
+            answer: Some(answer_to(error)?),
+        })
+    }
+
+    /// Takes in a response. It is ignored exactly where nothing of the kind was asked on the stream, and refused
+    /// exactly where an error is given.
+    pub(crate) fn respond(
+        &mut self,
+        kind: Kind,
+        version: &Text,
+        nonce: &Text,
+        error: Option<&Text>,
+    ) -> Result<Verdict, Memory>
+        ensures verdict { IfOk result (λ verdict. verdict ≡ verdict_on self.old kind (option_copied error.entry)) }
+        ensures ok { OnOk result (self.new ≡ responded self.old version.now nonce.now (option_copied error.entry)) }
+        ensures err { OnErr result (self.new ≡ self.old) }
+    {
+        if self.asked.is_none() {
+            return Ok(Verdict::Ignored);
+        }
+        *self = self.answered(version, nonce, error)?;
+        Ok(verdict_by(kind, error))
+    }
+
+    // Whether the names aren't those that were sent last.
+    fn differs(&self, names: &List<Text>) -> bool
+        ensures { result ≡ differs self.now.asked names.now }
+    {
+        match &self.asked {
+            Some(asked) => asked.get() != names,
+            None => !names.as_slice().is_empty(),
+        }
+    }
+
+    /// Whether a request is due: a response is to be answered, or the names differ.
+    pub(crate) fn is_due(&self, names: &List<Text>) -> bool
+        ensures { result ≡ is_due self.now names.now }
+    {
+        self.answer.is_some() || self.differs(names)
+    }
+
+    // The text of the refusal that is due.
+    fn error(&self) -> Result<Option<Text>, Memory>
+        ensures { IfOk result (λ error. error ≡ error_of self.now) }
+    {
+        match &self.answer {
+            Some(answer) => answer.error.clone(),
+            None => Ok(None),
+        }
+    }
+
+    /// The request for these names.
+    pub(crate) fn request(
+        &self,
+        kind: Kind,
+        names: &List<Text>,
+        node: Option<Node>,
+    ) -> Result<Request, Memory>
+        ensures { IfOk result (λ request. request ≡ request_of self.now kind names.now node) }
+    {
+        Ok(Request {
+            kind,
+            version: self.version.clone()?,
+            nonce: self.nonce.clone()?,
+            names: copy_of(names)?,
+            node,
+            error: self.error()?,
+        })
+    }
+
+    // The names that were sent last, where these are sent if a request is due.
+    fn asked_with(
+        &self,
+        alloc: Global,
+        names: &List<Text>,
+    ) -> Result<Option<Shared<List<Text>>>, Memory>
+        ensures { IfOk result (λ asked. asked ≡ asked_with self.now names.now) }
+    {
+        if self.is_due(names) {
+            Ok(Some(Shared::new(alloc, copy_of(names)?)?))
+        } else {
+            self.asked.clone()
+        }
+    }
+
+    /// The same once the request that is due has been sent.
+    pub(crate) fn asked_for(
+        &self,
+        alloc: Global,
+        names: &List<Text>,
+    ) -> Result<Subscription, Memory>
+        ensures { IfOk result (λ s. s ≡ asked_for self.now names.now) }
+    {
+        Ok(Subscription {
+            version: self.version.clone()?,
+            nonce: self.nonce.clone()?,
+            asked: self.asked_with(alloc, names)?,
+            answer: None,
+        })
+    }
+}
