@@ -12,3 +12,6 @@ pub(crate) mod users;
 
 pub use snapshot::{NamedChild, Snapshot, TreeView};
 pub use trees::Trees;
+
+#[cfg(test)]
+mod tests;
