@@ -1,0 +1,9 @@
+pub mod EachLemmas
+pub mod FractionLemmas
+pub mod GapLemmas
+pub mod LawLemmas
+pub mod NameLemmas
+pub mod OnceLemmas
+pub mod OrderLemmas
+pub mod TestLemmas
+pub mod WeightLemmas

@@ -4,6 +4,7 @@ pub mod Fractions
 pub mod HeaderTable
 pub mod ListenerTable
 pub mod Names
+pub mod Places
 pub mod Resources
 pub mod RouteTable
 pub mod Steps

@@ -2,9 +2,16 @@
 //! it has the tables of checks as definitions, the steps that they share, and the reading of a resource.
 #![tactic(auto)]
 
+mod assignment;
+mod cluster;
+mod endpoints;
 pub mod fault;
+mod fractions;
+mod localities;
+mod names;
 pub mod raw;
 pub mod resource;
+mod sources;
 pub mod steps;
 
 pub use fault::{CheckFault, Fault, Refusal, Stop};
