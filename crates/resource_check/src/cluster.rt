@@ -10,7 +10,7 @@ ghost use Rattle.resource_check.specs.Steps.{Tells, each, readable};
 use crate::fault::Fault;
 use crate::names::named;
 use crate::sources::is_sourced;
-use crate::steps::{demand, few};
+use crate::steps::{MOST_BYTES, demand, few};
 use proto_cluster::{RawCluster, RawClusterOne, RawClusterType, RawEds, read_aggregate};
 use proto_discovery::AnyValue;
 use proto_discovery::type_urls::AGGREGATE_URL;
@@ -28,9 +28,6 @@ const EDS: u32 = 3;
 
 /// The number of the policy that takes endpoints in turn.
 const ROUND_ROBIN: u32 = 0;
-
-/// Messages have fewer bytes.
-const MOST_BYTES: usize = 1 << 32;
 
 /// The clusters of an aggregate, as its bytes name them.
 fn children(alloc: Global, bytes: &[u8]) -> Result<List<Text>, Fault>
