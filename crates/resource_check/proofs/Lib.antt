@@ -1,5 +1,6 @@
 pub mod AskingLemmas
 pub mod EachLemmas
+pub mod FoundLemmas
 pub mod FractionLemmas
 pub mod GapLemmas
 pub mod HostLemmas
