@@ -1,0 +1,15 @@
+pub mod AskingLemmas
+pub mod EachLemmas
+pub mod FoundLemmas
+pub mod FractionLemmas
+pub mod GapLemmas
+pub mod HostLemmas
+pub mod LawLemmas
+pub mod LoopLemmas
+pub mod NameLemmas
+pub mod OnceLemmas
+pub mod OrderLemmas
+pub mod RouteLemmas
+pub mod SplitLemmas
+pub mod TestLemmas
+pub mod WeightLemmas

@@ -92,28 +92,27 @@ abbrev pub is_same_place : Locality → Locality → Bool
 is_same_place a b =
     a.priority == b.priority && (bytes_eq a.id.region b.id.region && (bytes_eq a.id.zone b.id.zone && bytes_eq a.id.sub_zone b.id.sub_zone))
 
-abbrev pub is_placed : Locality → List Locality → Bool
-is_placed l ls = list_any (λ m. is_same_place m l) ls
-
--- none of the localities is one of those before, or stands before in the list
-abbrev pub stand_once : List Locality → List Locality → Bool
-stand_once before [] = true
-stand_once before (l ∷ ls) = not (is_placed l before) && stand_once (l ∷ before) ls
+-- none of the localities is of the same priority and name as one after it
+abbrev pub stand_once : List Locality → Bool
+stand_once [] = true
+stand_once (l ∷ ls) = not (list_any (is_same_place l) ls) && stand_once ls
 
 -- the weights of the priority of each locality sum to at most 4,294,967,295
 abbrev pub have_weights : List Locality → Bool
 have_weights ls = list_all (λ l. nat_lt (sum (priority_weights l.priority ls)) (2 ^ 32)) ls
 
--- no priority stands in ascending ones without the one before it, of which `next` is the first that isn't there yet
-abbrev pub have_no_gap : ℕ → List Locality → Bool
-have_no_gap next [] = true
-have_no_gap next (l ∷ ls) = nat_le l.priority next && have_no_gap (if l.priority == next then next + 1 else next) ls
+-- the priority is 0, or the one below it is there
+abbrev pub has_no_gap : List Locality → ℕ → Bool
+has_no_gap ls priority = priority == 0 || list_any (λ l. l.priority + 1 == priority) ls
+
+abbrev pub have_no_gap : List Locality → Bool
+have_no_gap ls = list_all (λ l. has_no_gap ls l.priority) ls
 
 unfoldable pub stand_soundly : List Locality → Result (Unit {0}) Stop
 stand_soundly localities = do
-  once ← demand (stand_once [] localities) reason.LocalityTwice
+  once ← demand (stand_once localities) reason.LocalityTwice
   fit ← demand (have_weights localities) reason.Weights
-  demand (have_no_gap 0 localities) reason.PriorityGap
+  demand (have_no_gap localities) reason.PriorityGap
 
 -- ---- the whole
 

@@ -1,9 +1,8 @@
 -- The checks of a Cluster (gRFC A27, A37, A47, Envoy's cluster API).
-use Rattle.std.specs.Prelude.{ℕ, List, [], ◌∷◌, Bool, true, false, not, ◌&&◌, ◌==◌, bytes_eq, codes, Option, Some, None, is_some, unwrap_or, Result, Ok, Err}
+use Rattle.std.specs.Prelude.{ℕ, List, [], Bool, false, not, ◌&&◌, ◌==◌, bytes_eq, codes, Option, Some, None, is_some, unwrap_or, Result, Ok}
 use Rattle.xc_base.specs.declared.reason.Reason.TheVariants as reason
 use Rattle.proto_discovery.specs.Any.{empty_any}
 use Rattle.proto_discovery.specs.TypeUrls.{aggregate_url}
-use Rattle.proto_discovery.specs.declared.any.AnyValue.{AnyValue}
 use Rattle.proto_route.specs.declared.config_source.RawConfigSource.{RawConfigSource}
 use Rattle.proto_cluster.specs.Aggregate.{aggregate_of}
 use Rattle.proto_cluster.specs.declared.cluster.RawCluster.{RawCluster}
@@ -16,7 +15,6 @@ use Rattle.xds_config.specs.declared.cluster_values.Shape.{Shape}
 use Rattle.xds_config.specs.declared.cluster_values.Shape.TheVariants.{Eds, Aggregate}
 use Rattle.xds_name.specs.Names.{canonical_of, is_xdstp}
 use Rattle.resource_check.specs.declared.fault.Stop.{Stop}
-use Rattle.resource_check.specs.declared.fault.Stop.TheVariants.{Because}
 use Rattle.resource_check.specs.Names.{is_nothing, named}
 use Rattle.resource_check.specs.Steps.{◌>>=◌, demand, each, readable}
 

@@ -1,5 +1,5 @@
 -- Fractions of calls (Envoy's FractionalPercent): the denominator is 0, 1 or 2.
-use Rattle.std.specs.Prelude.{ℕ, refl, ◌==◌, if◌then◌else◌, Option, Some, None, Result, Ok, Err}
+use Rattle.std.specs.Prelude.{refl, ◌==◌, if◌then◌else◌, Option, Some, None, Result, Ok, Err}
 use Rattle.xc_base.specs.declared.reason.Reason.TheVariants as reason
 use Rattle.weight_pick.specs.declared.fraction.Fraction.{Fraction}
 use Rattle.proto_route.specs.declared.fraction.RawFractionalPercent.{RawFractionalPercent}

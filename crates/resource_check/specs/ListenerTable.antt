@@ -8,6 +8,7 @@ use Rattle.proto_listener.specs.Manager.{manager_of}
 use Rattle.proto_listener.specs.declared.listener.RawListener.{RawListener}
 use Rattle.proto_listener.specs.declared.listener.RawApiListener.{RawApiListener}
 use Rattle.proto_listener.specs.declared.manager.RawRds.{RawRds}
+use Rattle.proto_listener.specs.declared.manager.RawManager.{RawManager}
 use Rattle.proto_listener.specs.declared.manager.RawManagerOne.{RawManagerOne}
 use Rattle.proto_listener.specs.declared.manager.RawManagerOne.TheVariants.{Rds, RouteConfig}
 use Rattle.xds_config.specs.declared.listener_values.ListenerValue.{ListenerValue}
@@ -42,10 +43,15 @@ routes_of refuses None = Err (Because reason.NoRoutes)
 routes_of refuses (Some (Rds rds)) = named_routes rds
 routes_of refuses (Some (RouteConfig raw)) = route_value refuses (canonical_of raw.name) raw >>= λ routes. Ok (Inline routes)
 
-unfoldable pub listener_value : (List ℕ → Bool) → List ℕ → RawListener → Result ListenerValue Stop
-listener_value refuses name raw = do
+-- the connection manager is there, has its type, and is read
+unfoldable pub manager_in : RawListener → Result RawManager Stop
+manager_in raw = do
   any ← any_in raw.api_listener
   typed ← demand (bytes_eq any.type_url manager_url) reason.WrongType
-  manager ← readable (manager_of any.value)
+  readable (manager_of any.value)
+
+unfoldable pub listener_value : (List ℕ → Bool) → List ℕ → RawListener → Result ListenerValue Stop
+listener_value refuses name raw = do
+  manager ← manager_in raw
   routes ← routes_of refuses manager.one
   Ok record { name = name; routes = routes }

@@ -1,7 +1,7 @@
 -- The checks of a RouteConfiguration (gRFC A28, Envoy's route API), virtual host by virtual host and route by route.
 -- `refuses` tells which texts are refused as patterns.
 use Rattle.std.specs.Prelude.{ℕ, ◌+◌, ◌^◌, List, [], ◌∷◌, length, reverse, sum, Bool, true, false, not, ◌&&◌, ◌||◌, nat_lt, nat_le, bytes_eq, if◌then◌else◌, Option, Some, None, unwrap_or, Result, Ok, Err}
-use Rattle.std.specs.List.{list_all, list_any}
+use Rattle.std.specs.List.{cons_option, list_all, list_any}
 use Rattle.xc_base.specs.declared.reason.Reason.TheVariants as reason
 use Rattle.proto_route.specs.declared.route_match.RawRouteMatch.{RawRouteMatch}
 use Rattle.proto_route.specs.declared.route_match.RawRouteMatchOne.{RawRouteMatchOne}
@@ -97,12 +97,17 @@ route_of refuses place raw = do
   action ← action_of raw.route
   Ok record { place = place; path = path; headers = headers; fraction = fraction; action = action }
 
+-- none for a route that is left out
+unfoldable pub kept_of : (List ℕ → Bool) → ℕ → RawRoute → Result (Option Route) Stop
+kept_of refuses place raw = if is_left_out raw then Ok None else (route_of refuses place raw >>= λ route. Ok (Some route))
+
 -- the routes that aren't left out, of which the first of the list has this place
 unfoldable pub routes_from : (List ℕ → Bool) → ℕ → List RawRoute → Result (List Route) Stop
 routes_from refuses place [] = Ok []
-routes_from refuses place (r ∷ rs) =
-    if is_left_out r then routes_from refuses (place + 1) rs
-    else (route_of refuses place r >>= λ route. routes_from refuses (place + 1) rs >>= λ routes. Ok (route ∷ routes))
+routes_from refuses place (r ∷ rs) = do
+  kept ← kept_of refuses place r
+  routes ← routes_from refuses (place + 1) rs
+  Ok (cons_option kept routes)
 
 -- ---- the steps of a virtual host
 

@@ -70,3 +70,14 @@ pub enum CheckFault {
     /// There was no memory.
     Memory,
 }
+
+impl From<Memory> for CheckFault {
+    ghost use Rattle.std.specs.Prelude.{◌≡◌};
+    ghost use Rattle.resource_check.specs.declared.fault.CheckFault.TheVariants as variant;
+
+    ghost from_gives = { λ _ fault. fault ≡ variant.Memory };
+
+    fn from(_: Memory) -> CheckFault {
+        CheckFault::Memory
+    }
+}

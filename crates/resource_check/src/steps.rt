@@ -8,7 +8,7 @@ use std::alloc::{AllocError, Global};
 use xc_base::{Memory, Reason};
 
 /// Messages have fewer bytes.
-const MOST_BYTES: usize = 1 << 32;
+pub(crate) const MOST_BYTES: usize = 1 << 32;
 
 /// The test holds, else the checks stop for the reason.
 pub fn demand(test: bool, reason: Reason) -> Result<(), Fault>
