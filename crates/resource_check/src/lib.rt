@@ -17,3 +17,8 @@ pub mod steps;
 pub use fault::{CheckFault, Fault, Refusal, Stop};
 pub use raw::{Found, Raw, read_raw};
 pub use resource::Checked;
+
+#[cfg(test)]
+mod assignment_tests;
+#[cfg(test)]
+mod cluster_tests;
