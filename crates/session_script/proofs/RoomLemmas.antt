@@ -1,5 +1,5 @@
 -- The entries of a history, actor by actor, against those that are counted for the lines.
-use Rattle.std.proofs.Common.{◌≡◌, ◌≤◌, ◌+◌, ◌*◌, ◌/◌, ◌⊎◌, inl, inr, ℕ, zero, suc, Bool, true, false, cond, eqb, leb, List, [], ◌∷◌, ◌++◌, length, map, filter, reverse, Option, Some, None, All, refl, sym, ap, ◌∙◌, arith, length-append, not-suc-le-zero, count_by, sum_by}
+use Rattle.std.proofs.Common.{◌≡◌, ◌≤◌, ◌+◌, ◌/◌, inl, inr, ℕ, zero, suc, Bool, true, false, cond, eqb, leb, List, [], ◌∷◌, length, map, reverse, Option, Some, None, All, refl, sym, ap, ◌∙◌, arith, length-append, not-suc-le-zero, sum_by}
 use Rattle.std.proofs.lemmas.Bool.Decides.{nat_tests}
 use Rattle.std.proofs.lemmas.List.{length-map, length-reverse}
 use Rattle.std.proofs.lemmas.List.Elements.{All-head, All-tail}

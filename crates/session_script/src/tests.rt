@@ -1,5 +1,8 @@
 //! What no clause says: that sessions are read with ample memory, and the faults of sessions whose faults are
 //! known.
+ghost use Rattle.std.specs.Prelude.{◌+◌, ◌≤◌, IfOk};
+ghost use Rattle.session_script.specs.Before.{entries};
+
 use crate::{Act, Cause, DriverLine, Line, Session, SessionFault, Work, read_session, room};
 use std::alloc::{AllocError, Global};
 use std::test::Fail;
@@ -147,7 +150,9 @@ fn at_most_64_fields(rt: HostRuntime) -> Result<(), Fail> {
 }
 
 // A session with a line of each form.
-fn each_form(alloc: Global) -> Result<Session, SessionFault> {
+fn each_form(alloc: Global) -> Result<Session, SessionFault>
+    ensures { IfOk result (λ session. entries session.lines + 1 ≤ 1048576) }
+{
     let lines = "\
 d open -\n\
 @5 d data - 0aFF00000001\n\
@@ -204,6 +209,16 @@ fn a_line_of_each_form(rt: HostRuntime) -> Result<(), Fail> {
     let lines = session.lines.as_slice();
     assert!(rt; is_data(&lines[1]) && is_reported(&lines[3]) && is_started(&lines[4]));
     assert!(rt; lines[5].number == 10 && lines[5].gate == Some(9));
-    assert!(rt; room(&session) == 13);
+    Ok(())
+}
+
+fn room_for_each_form(alloc: Global) -> Result<u32, SessionFault> {
+    let session = each_form(alloc)?;
+    Ok(room(&session))
+}
+
+#[test]
+fn room_for_a_line_of_each_form(rt: HostRuntime) -> Result<(), Fail> {
+    assert!(rt; room_for_each_form(rt.alloc()) == Ok(13));
     Ok(())
 }
