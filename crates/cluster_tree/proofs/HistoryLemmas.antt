@@ -9,14 +9,14 @@ use Rattle.xc_base.specs.declared.names.Time.{Time}
 use Rattle.xds_config.specs.declared.config.Leaves.{Leaves}
 use Rattle.priority_lb.specs.declared.facts.ChildFacts.{ChildFacts}
 use Rattle.priority_lb.specs.Walk.{chosen}
-use Rattle.priority_lb.specs.Step.{step, walk, seen, carried}
+use Rattle.priority_lb.specs.Step.{step, carried}
 use Rattle.priority_lb.specs.History.{Name, Update, names_of as names_at}
 use Rattle.priority_lb.specs.Law.{places, all_facts, seen_now}
 use Rattle.priority_lb.proofs.HistoryLemmas.{one_step}
 use Rattle.graceful_switch.specs.Takeover.{Pair, has_to_wait, settled}
 use Rattle.cluster_tree.specs.Reports.{Reports, children_of, name_of, child_in, names_of, states_in}
 use Rattle.cluster_tree.specs.Trees.{TreeFacts, names_before, children_before, begun, stepped, followed, stayed, state_of, is_same, trees_after}
-use Rattle.cluster_tree.specs.History.{Followed, TreeHistory, update_of, updates_of, facts_of, past_of, follows, histories_after, pair_facts, TreesFollowHistory}
+use Rattle.cluster_tree.specs.History.{Followed, TreeHistory, update_of, facts_of, past_of, follows, histories_after, pair_facts, TreesFollowHistory}
 
 long_states : (f : Followed) → length (states_in f.reports f.leaves.leaves) ≡ length (names_of f.leaves.leaves)
 long_states f = length-map (children_of f.leaves.leaves) (child_in f.reports) ∙ sym (length-map (children_of f.leaves.leaves) name_of)

@@ -8,7 +8,7 @@ use Rattle.priority_lb.specs.History.{Update}
 use Rattle.priority_lb.specs.Law.{all_facts, seen_now}
 use Rattle.graceful_switch.specs.Takeover.{Pair, settled}
 use Rattle.cluster_tree.specs.Reports.{Reports, names_of, states_in}
-use Rattle.cluster_tree.specs.Trees.{TreeFacts, followed, state_of, is_same, trees_after}
+use Rattle.cluster_tree.specs.Trees.{TreeFacts, state_of, is_same, trees_after}
 
 -- one update of a tree: the leaves that it follows, what addresses reported, and the time
 pub record Followed : Type 0 where
