@@ -1,5 +1,6 @@
 pub mod AgreeLemmas
 pub mod ChildLemmas
+pub mod HistoryLemmas
 pub mod NameLemmas
 pub mod PickLemmas
 pub mod PlaceLemmas

@@ -1,5 +1,6 @@
 pub mod Agree
 pub mod Clusters
+pub mod History
 pub mod Lent
 pub mod Picks
 pub mod Quiet

@@ -3,6 +3,7 @@
 
 pub(crate) mod children;
 pub(crate) mod cluster;
+pub mod law;
 pub(crate) mod pickers;
 pub(crate) mod reports;
 pub mod snapshot;

@@ -164,9 +164,8 @@ impl Trees {
         Ok(views)
     }
 
-    /// The same with the configuration of the last update, where only these addresses may have another
-    /// state than at that update. It costs what the trees cost that read one of them or have a timer that
-    /// runs, and a copy of a count for each cluster.
+    /// The same with the configuration of the last update, where every address whose state differs from
+    /// that of the last update is one of these. It is for updates that few clusters read.
     pub fn update_states(
         &mut self,
         reports: &BTreeMap<Address, State>,
