@@ -25,3 +25,8 @@ pub use checks::check;
 pub use fault::{CheckFault, Fault, Refusal, Stop};
 pub use raw::{Found, Raw, read_raw};
 pub use resource::Checked;
+
+#[cfg(test)]
+mod assignment_tests;
+#[cfg(test)]
+mod cluster_tests;
