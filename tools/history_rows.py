@@ -5,11 +5,12 @@ is made again, each published snapshot is given whole, and what stands at each o
     python3 tools/history_rows.py REFERENCE FOLDER MODULE --fuzzed FIRST COUNT MOST
 
 REFERENCE is the folder of the reference program, which plays the sessions. MODULE is the module of the words that the
-files import. With --fuzzed it plays random sessions, by their seeds, of at most MOST entries. Sessions with header rules,
-patterns or texts that aren't plain ASCII are left out.
+files import. With --fuzzed it plays random sessions, by their seeds, of at most MOST entries. Sessions with
+patterns that are accepted are left out.
 """
 
 import os
+import re
 import sys
 
 KINDS = ["Kind.Listener", "Kind.Route", "Kind.Cluster", "Kind.Endpoint"]
@@ -17,6 +18,17 @@ STATES = {"ready": "State.Ready", "connecting": "State.Connecting", "failing": "
 NAME_FAULTS = {"bad-escape": "BadEscape", "bad-type": "WrongType", "bad-authority": "UnknownAuthority"}
 BYTES = {"ok": "Whole", "whole": "Whole", "closed": "Closed", "compressed": "Compressed", "ended": "Ended"}
 UNREAD = 999  # the payload that can't be read
+
+
+def imported(imports, body):
+    """Of these imports those that the body uses."""
+    words, kept = set(re.findall(r"[\w◌≡∷]+|\[\]", body)), []
+    for line in imports.splitlines():
+        module, names = line.removesuffix("}").split(".{")
+        used = [name for name in names.split(", ") if name.strip("◌") in words]
+        if used:
+            kept.append(f"{module}.{{{', '.join(used)}}}")
+    return "\n".join(kept) + "\n"
 
 
 class LeftOut(Exception):
@@ -43,6 +55,10 @@ def optional(term):
     return "None" if term is None else f"(Some {term})"
 
 
+def signed(n):
+    return f"(pos {n})" if n >= 0 else f"(negsuc {-n - 1})"
+
+
 def truth(b):
     return "true" if b else "false"
 
@@ -59,9 +75,9 @@ class Writer:
         if t == "":
             return "[]"
         if t not in self.texts:
-            if not t.isascii() or not t.isprintable() or '"' in t or "\\" in t:
-                raise LeftOut("text")
-            self.texts[t] = self.defined("Name", f'codes "{t}"', "text")
+            plain = t.isascii() and t.isprintable() and '"' not in t and "\\" not in t
+            body = f'codes "{t}"' if plain else listed(str(byte) for byte in t.encode())
+            self.texts[t] = self.defined("Name", body, "text")
         return self.texts[t]
 
     def defined(self, type_, body, prefix):
@@ -90,12 +106,27 @@ class Writer:
             return "Action.Nothing"
         return "(Action.To " + listed(record(cluster=self.text(c), weight=w) for c, w in action[1]) + ")"
 
+    def header_test(self, test):
+        kind, *of = test
+        if kind == "pattern":
+            raise LeftOut("pattern")
+        if kind == "range":
+            return f"(HeaderTest.Range {signed(of[0])} {signed(of[1])})"
+        if kind == "present":
+            return f"(HeaderTest.Present {truth(of[0])})"
+        if kind == "nocase":
+            return f"(HeaderTest.NoCase (TextTest.{of[0][0].capitalize()} {self.text(of[0][1])}))"
+        return f"(HeaderTest.{kind.capitalize()} {self.text(of[0])})"
+
+    def header_rule(self, rule):
+        name, test, invert = rule
+        return record(name=self.text(name), test=self.header_test(test), invert=truth(invert))
+
     def route(self, route):
         place, path, headers, fraction, action = route
-        if headers:
-            raise LeftOut("headers")
+        rules = listed(map(self.header_rule, headers))
         share = optional(self.fraction(fraction) if fraction else None)
-        return record(place=place, path=self.path(path), headers="[]", fraction=share, action=self.action(action))
+        return record(place=place, path=self.path(path), headers=rules, fraction=share, action=self.action(action))
 
     def routes(self, value):
         _, name, hosts = value
@@ -136,17 +167,20 @@ class Writer:
 
     # ---- payloads
 
-    def result(self, part):
+    def stop(self, word, refused):
+        return f"(Stop.Refused {self.text(refused[-1])})" if word == "bad-pattern" else f"(Stop.Because {reason(word)})"
+
+    def result(self, part, refused):
         if part[0] == "ok":
             return f"(Ok {record(name=self.text(part[1]), value=self.value(part[2]))})"
         name = optional(None if part[1] is None else self.text(part[1]))
-        return f"(Err {record(name=name, stop=f'(Stop.Because {reason(part[2])})')})"
+        return f"(Err {record(name=name, stop=self.stop(part[2], refused))})"
 
     def resources(self, raw, kind):
-        asked = self.reference.Asked(self.history.refuse)
         for any_ in raw["resources"]:
+            asked = self.reference.Asked(self.history.refuse)
             part = self.reference.check(kind, (any_["type_url"], any_["value"]), asked, 16)
-            self.checked.append(self.result(part))
+            self.checked.append(self.result(part, asked.refused))
             yield str(len(self.checked) - 1)
 
     def payload(self, payload):
@@ -206,16 +240,14 @@ class Writer:
 
     def driver(self, entry):
         reply = entry.reply
-        if reply["refused"]:
-            raise LeftOut("refused")
         missing = optional(self.key(reply["missing"]) if reply["missing"] else None)
         sent = listed(map(self.request, reply["requests"]))
-        return f"driven {self.driver_event(entry.event)} {self.verdict(reply['verdict'])} {missing} {sent} {optional(reply['snapshot'])}"
+        snapshot, refused = optional(reply["snapshot"]), self.names(reply["refused"])
+        return f"driven {self.driver_event(entry.event)} {self.verdict(reply['verdict'])} {missing} {sent} {snapshot} {refused}"
 
     def call(self, call):
-        if call[2]:
-            raise LeftOut("headers")
-        return record(id=number(call[0]), path=self.text(call[1]), headers="[]", word=call[3])
+        headers = listed(record(name=self.text(n), value=self.text(v)) for n, v in call[2])
+        return record(id=number(call[0]), path=self.text(call[1]), headers=headers, word=call[3])
 
     def answer(self, answer):
         kind, *rest = answer
@@ -327,8 +359,7 @@ class Writer:
         newest_first = "".join(f"entry{i} ∷ " for i in range(len(entries), 0, -1)) + "[]"
         published = "".join(f"snapshot{i} ∷ " for i in range(len(snapshots), 0, -1)) + "[]"
         quiet = "".join(q + " ∷ " for q in reversed(list(self.quiet()))) + "[]"
-        return "\n".join([
-            f"-- {self.title}.\n{imports}",
+        body = "\n".join([
             *self.definitions,
             f"abbrev key : Kind → Name → Key\nkey = key_from {homes}\n",
             f"abbrev set : Setting\nset = setting_with key {len(history.boot.authorities)} {target} {host}\n"
@@ -340,17 +371,20 @@ class Writer:
             f"published : snapshots set history ≡ {published}\n{UNFOLDING}\npublished = refl\n",
             f"unpublished : quiet set history ≡ {quiet}\n{UNFOLDING}\nunpublished = refl\n",
         ])
+        return f"-- {self.title}.\n{imported(imports, body)}\n{body}"
 
 
 UNFOLDING = "unfolding leaves_within goes_on ends"
 
-IMPORTS = """use Rattle.std.specs.Prelude.{◌≡◌, refl, ℕ, List, [], ◌∷◌, true, false, Option, Some, None, Ok, Err, codes}
+IMPORTS = """use Rattle.std.specs.Prelude.{◌≡◌, refl, ℕ, pos, negsuc, List, [], ◌∷◌, true, false, Option, Some, None, Ok, Err, codes}
 use Rattle.xc_base.specs.declared.names.Kind.{Kind}
 use Rattle.xc_base.specs.declared.names.Key.{Key}
 use Rattle.xc_base.specs.declared.names.Home.{Home}
 use Rattle.xc_base.specs.declared.names.NameFault.{NameFault}
 use Rattle.xc_base.specs.declared.names.State.{State}
 use Rattle.xc_base.specs.declared.reason.Reason.{Reason}
+use Rattle.header_match.specs.declared.rule.HeaderTest.{HeaderTest}
+use Rattle.header_match.specs.declared.rule.TextTest.{TextTest}
 use Rattle.xds_config.specs.declared.value.Value.{Value}
 use Rattle.xds_config.specs.declared.listener_values.RoutesFrom.{RoutesFrom}
 use Rattle.xds_config.specs.declared.route_values.RouteValue.{RouteValue}

@@ -1,6 +1,6 @@
 -- The laws' proofs.
 use Rattle.std.proofs.Common.{◌≡◌, refl, sym, ap, ◌∙◌, ℕ, List, [], ◌∷◌, ◌++◌, map}
-use Rattle.std.specs.Prelude.{Option, Some, None, Result, Ok, Err, option_map}
+use Rattle.std.specs.Prelude.{Option, Some, None, Result, option_map}
 use Rattle.xc_base.specs.declared.names.Key.{Key}
 use Rattle.xc_base.specs.declared.reason.Reason.{Reason}
 use Rattle.xds_config.specs.declared.config.Front.{Front}
@@ -8,7 +8,6 @@ use Rattle.xds_config.specs.declared.config.Config.{Config}
 use Rattle.cluster_tree.specs.declared.snapshot.Snapshot.{Snapshot}
 use Rattle.ads_stream.specs.declared.verdict.Verdict.{Verdict}
 use Rattle.call_journal.specs.declared.event.DriverEvent.{DriverEvent}
-use Rattle.call_journal.specs.declared.event.CallerEvent.{CallerEvent}
 use Rattle.call_journal.specs.declared.reply.Sent.{Sent}
 use Rattle.call_journal.specs.declared.reply.DriverReply.{DriverReply}
 use Rattle.call_journal.specs.declared.entry.What.{What}
@@ -22,8 +21,10 @@ use Rattle.xds_history.specs.Fates.{Fate}
 use Rattle.xds_history.specs.Front.{front, names_of_front}
 use Rattle.xds_history.specs.Configs.{cluster_entry, config_with}
 use Rattle.xds_history.specs.Pages.{pages, page_of, driver_page, came, present_after}
-use Rattle.xds_history.specs.Right.{Right, IsReply, IsDriverReply, IsNumber, Shown, shown, standing, caller_reply}
-use Rattle.xds_history.specs.Laws.{OneReply, NoOthers, Given, driver, caller, given_in, Asked, asked_of}
+use Rattle.xds_history.specs.Right.{IsReply, IsDriverReply, IsNumber, Shown, standing}
+use Rattle.xds_history.specs.Setting.{setting_of}
+use Rattle.xds_history.specs.Legal.{is_read}
+use Rattle.xds_history.specs.Laws.{OneReply, NoOthers, FewEntries, given_in, asked_of}
 
 -- ---- one reply
 
@@ -63,11 +64,11 @@ same_reply : (s : Setting) (past : List Entry) (ps : List Page) (e f : Entry) (e
 same_reply s past ps e f event other r q events refused a b =
     let c : came event r ≡ came other q = same_came s past event other r q events refused a.verdict_is b.verdict_is in
     same_fields r q
-        (ap (λ x. x.verdict) c)
-        (a.sent_is ∙ (ap (λ x. requests s x past (page_with s past ps x).watched) c ∙ sym b.sent_is))
-        (a.missing_is ∙ (ap (λ x. (page_with s past ps x).missing) c ∙ sym b.missing_is))
-        (same_number (stands_with s past ps (came event r)) (stands_with s past ps (came other q)) (latest ps) r.snapshot q.snapshot (ap (stands_with s past ps) c) a.number_is b.number_is)
-        refused
+    (ap (λ x. x.verdict) c)
+    (a.sent_is ∙ (ap (λ x. requests s x past (page_with s past ps x).watched) c ∙ sym b.sent_is))
+    (a.missing_is ∙ (ap (λ x. (page_with s past ps x).missing) c ∙ sym b.missing_is))
+    (same_number (stands_with s past ps (came event r)) (stands_with s past ps (came other q)) (latest ps) r.snapshot q.snapshot (ap (stands_with s past ps) c) a.number_is b.number_is)
+    refused
 
 same_what : (s : Setting) (past : List Entry) (ps : List Page) (e f : Entry) (w x : What) → given_in w ≡ given_in x → IsReply s e w past ps → IsReply s f x past ps → w ≡ x
 same_what s past ps e f (What.Driver event r) (What.Driver other q) same a b = cc (same_reply s past ps e f event other r q (cc same) (cc same) a b, same)
@@ -110,3 +111,8 @@ no_others_with s fate references config (Some found) is =
 
 pub no_others : NoOthers
 no_others s fate references config is = no_others_with s fate references config (front s fate) is
+
+-- ---- few entries
+
+pub few : FewEntries
+few session room history enough legal = enough (is_read (setting_of session.boot session.target)) history legal.listed

@@ -17,6 +17,7 @@ pub mod PickFails
 pub mod RealisticChannel
 pub mod DropRule
 pub mod ClusterChangesKind
+pub mod BadPattern
 pub mod ClusterTwice
 pub mod HiddenState
 pub mod OneStep
@@ -47,7 +48,7 @@ use Rattle.call_journal.specs.declared.entry.What.{What}
 use Rattle.call_journal.specs.declared.entry.Entry.{Entry}
 use Rattle.xds_history.specs.Words.{Name, same_kind}
 use Rattle.xds_history.specs.Setting.{Setting}
-use Rattle.xds_history.specs.Responses.{Came, verdict}
+use Rattle.xds_history.specs.Responses.{Came, verdict, answered, stopped_at}
 use Rattle.xds_history.specs.Requests.{requests}
 use Rattle.xds_history.specs.Page.{Page}
 use Rattle.xds_history.specs.Pages.{pages, driver_page, present_after}
@@ -99,9 +100,9 @@ setting_with key authorities target host responses checked = record {
 
 -- ---- entries
 
-abbrev pub driven : DriverEvent → Verdict → Option Key → List Sent → Option ℕ → What
-driven event verdict missing sent number =
-    What.Driver event (record { verdict = verdict; sent = sent; missing = missing; snapshot = number; refused = [] })
+abbrev pub driven : DriverEvent → Verdict → Option Key → List Sent → Option ℕ → List Name → What
+driven event verdict missing sent number refused =
+    What.Driver event (record { verdict = verdict; sent = sent; missing = missing; snapshot = number; refused = refused })
 
 abbrev pub called : CallerEvent → CallerReply → What
 called event reply = What.Caller event reply
@@ -117,7 +118,7 @@ blank = on_line 0 0 (called (CallerEvent.Commit (record { 0 = 0 })) CallerReply.
 
 abbrev pub reply_with : Setting → Came → List Entry → Option ℕ → Page → DriverReply
 reply_with s c past number page =
-    record { verdict = c.verdict; sent = requests s c past page.watched; missing = page.missing; snapshot = number; refused = c.refused }
+    record { verdict = c.verdict; sent = requests s c past page.watched; missing = page.missing; snapshot = number; refused = stopped_at s c.refused (answered s c) }
 
 abbrev pub reply_to : Setting → Came → List Entry → List Page → Option ℕ → DriverReply
 reply_to s c past ps number = reply_with s c past number (driver_page s blank c number past ps (present_after past c.event))

@@ -1,6 +1,6 @@
 -- The present time, and the reported states of endpoints (this project's own). A history has its newest entry first, so
 -- that what came before an entry is a tail of it.
-use Rattle.std.specs.Prelude.{ℕ, max, List, [], ◌∷◌, if◌then◌else◌}
+use Rattle.std.specs.Prelude.{max, List, [], ◌∷◌, if◌then◌else◌}
 use Rattle.std.specs.Str.{bytes_eq}
 use Rattle.xc_base.specs.declared.names.State.{State}
 use Rattle.xc_base.specs.declared.names.Time.{Time}

@@ -1,9 +1,8 @@
 -- Which keys are watched, and the fate of a key (Envoy's xDS protocol, "Knowing When a Requested Resource Does Not Exist";
 -- that an invalid resource leaves the value is gRFC A27's).
-use Rattle.std.specs.Prelude.{ℕ, ◌-◌, nat_le, List, [], ◌∷◌, map, Bool, true, false, ◌&&◌, not, if◌then◌else◌, Option, Some, None, Result, Ok, Err, is_some, unwrap_or, option_map, option_and_then}
+use Rattle.std.specs.Prelude.{◌-◌, nat_le, List, [], ◌∷◌, map, Bool, true, false, ◌&&◌, not, if◌then◌else◌, Option, Some, None, Result, Ok, Err, is_some, option_map, option_and_then}
 use Rattle.std.specs.List.{list_all, cons_option}
 use Rattle.std.specs.Option.{option_or, option_map_or}
-use Rattle.std.specs.Str.{bytes_eq}
 use Rattle.xc_base.specs.declared.names.Kind.{Kind}
 use Rattle.xc_base.specs.declared.names.Authority.{Authority}
 use Rattle.xc_base.specs.declared.names.Home.{Home}

@@ -1,53 +1,40 @@
--- Legal histories: right ones in which each actor plays its list, and each entry stands after its gate.
-use Rattle.std.specs.Prelude.{◌≡◌, ℕ, ◌==◌, List, [], ◌∷◌, reverse, Bool, true, false, ◌&&◌, Option, Some, None, IsTrue, unwrap_or, option_and_then, slice_get}
-use Rattle.std.specs.List.{filter, find, list_any}
-use Rattle.xc_base.specs.declared.call.Call.{Call}
+-- Legal histories of a session: right ones in which each actor plays what the session lists for it, and each entry stands
+-- after its gate (this project's own).
+use Rattle.std.specs.Prelude.{◌≡◌, ℕ, ◌==◌, List, [], ◌∷◌, reverse, Bool, true, false, ◌&&◌, Option, Some, None, IsTrue, is_some, option_and_then}
+use Rattle.std.specs.List.{find, list_any}
 use Rattle.call_journal.specs.declared.event.DriverEvent.{DriverEvent}
 use Rattle.call_journal.specs.declared.event.CallerEvent.{CallerEvent}
 use Rattle.call_journal.specs.declared.reply.CallerReply.{CallerReply}
 use Rattle.call_journal.specs.declared.entry.What.{What}
 use Rattle.call_journal.specs.declared.entry.Entry.{Entry}
-use Rattle.call_journal.specs.declared.plan.ListedEvent.{ListedEvent}
-use Rattle.call_journal.specs.declared.plan.Listed.{Listed}
-use Rattle.xds_history.specs.Setting.{Setting}
+use Rattle.session_script.specs.declared.session.Line.{Line}
+use Rattle.session_script.specs.declared.session.Session.{Session}
+use Rattle.session_script.specs.Plan.{AreListed, entries_by, entry_event, last_sweep, listed_event}
+use Rattle.xds_history.specs.Setting.{Setting, setting_of}
 use Rattle.xds_history.specs.Right.{Right}
 
--- ---- an actor's entries
+-- ---- starts
 
-abbrev pub of_actor : ℕ → List Entry → List Entry
-of_actor actor history = filter (λ e. e.actor == actor) history
+abbrev pub is_hold : What → Bool
+is_hold (What.Caller (CallerEvent.Hold call) reply) = true
+is_hold _ = false
 
--- the listed event that an entry begins; a hold belongs to the pin before it
-abbrev pub begun_by : What → Option ListedEvent
-begun_by (What.Driver event reply) = Some (ListedEvent.Driver event)
-begun_by (What.Caller (CallerEvent.Pin call) reply) = Some (ListedEvent.Start call)
-begun_by (What.Caller (CallerEvent.Hold call) reply) = None
-begun_by (What.Caller (CallerEvent.Pick id word) reply) = Some (ListedEvent.Pick id word)
-begun_by (What.Caller (CallerEvent.Commit id) reply) = Some (ListedEvent.Commit id)
+abbrev pub is_pinned : CallerReply → Bool
+is_pinned (CallerReply.Pinned number) = true
+is_pinned _ = false
 
--- the call of which a hold has to follow
-abbrev pub to_hold : What → Option Call
-to_hold (What.Caller (CallerEvent.Pin call) (CallerReply.Pinned number)) = Some call
-to_hold _ = None
+abbrev pub begins_with_hold : List Entry → Bool
+begins_with_hold [] = false
+begins_with_hold (e ∷ entries) = is_hold e.what
 
-abbrev pub IsHoldOf : Call → What → Type 0
-IsHoldOf call (What.Caller (CallerEvent.Hold other) reply) = other ≡ call
-IsHoldOf call _ = ⊥
+-- of a caller's entries, the oldest first: a hold follows a pin exactly where the pin got a snapshot
+abbrev pub IsStarted : What → List Entry → Type 0
+IsStarted (What.Caller (CallerEvent.Pin call) reply) later = begins_with_hold later ≡ is_pinned reply
+IsStarted _ later = Unit {0}
 
--- these entries, the oldest first, begin with the hold that has to follow, and the rest is as said
-abbrev pub Follows : Option Call → ℕ → List Entry → (List Entry → Type 0) → Type 0
-Follows None line entries Rest = Rest entries
-Follows (Some call) line [] Rest = ⊥
-Follows (Some call) line (e ∷ entries) Rest = (e.line ≡ line) × IsHoldOf call e.what × Rest entries
-
--- an actor's entries, the oldest first, are its listed events, all of them, each once, in order: a start is a pin, and then
--- a hold of the same call where the pin got a snapshot
-abbrev pub IsPlayed : List Listed → List Entry → Type 0
-IsPlayed [] [] = Unit {0}
-IsPlayed [] (e ∷ entries) = ⊥
-IsPlayed (listed ∷ more) [] = ⊥
-IsPlayed (listed ∷ more) (e ∷ entries) =
-    (e.line ≡ listed.line) × (begun_by e.what ≡ Some listed.event) × Follows (to_hold e.what) e.line entries (IsPlayed more)
+abbrev pub AreStarted : List Entry → Type 0
+AreStarted [] = Unit {0}
+AreStarted (e ∷ later) = IsStarted e.what later × AreStarted later
 
 -- ---- gates
 
@@ -60,31 +47,40 @@ ends_line (What.Caller (CallerEvent.Pin call) reply) = false
 ends_line (What.Caller event reply) = true
 
 abbrev pub has_ended : ℕ → List Entry → Bool
-has_ended line history = list_any (λ e. e.line == line && ends_line e.what) history
+has_ended line past = list_any (λ e. e.line == line && ends_line e.what) past
 
--- the line that has to end before a line of this list
-abbrev pub gate_of : List Listed → ℕ → Option ℕ
-gate_of list line = option_and_then (λ listed. listed.after) (find (λ listed. listed.line == line) list)
+-- the line that has to end before a line
+abbrev pub gate_of : List Line → ℕ → Option ℕ
+gate_of lines number = option_and_then (λ line. line.gate) (find (λ line. line.number == number) lines)
 
 abbrev pub IsOpen : Option ℕ → List Entry → Type 0
 IsOpen None past = Unit {0}
 IsOpen (Some line) past = IsTrue (has_ended line past)
 
 -- each entry of a line with a gate stands after the entry that ends the gate's line
-abbrev pub AreOpen : List (List Listed) → List Entry → Type 0
-AreOpen plan [] = Unit {0}
-AreOpen plan (e ∷ past) = IsOpen (gate_of (unwrap_or (slice_get plan e.actor) []) e.line) past × AreOpen plan past
+abbrev pub AreOpen : List Line → List Entry → Type 0
+AreOpen lines [] = Unit {0}
+AreOpen lines (e ∷ past) = IsOpen (gate_of lines e.line) past × AreOpen lines past
 
 -- ---- legal histories
 
--- the last entry is the sweep that no line has
+-- the newest entry is the last sweep, which no line has
 abbrev pub EndsInSweep : List Entry → Type 0
 EndsInSweep [] = ⊥
-EndsInSweep (e ∷ past) = (e.line ≡ 0) × (begun_by e.what ≡ Some (ListedEvent.Driver DriverEvent.Sweep))
+EndsInSweep (e ∷ past) = entry_event e ≡ listed_event last_sweep
 
--- a history of this plan, which lists the events of each actor, the driver first
-pub record Legal (s : Setting) (plan : List (List Listed)) (history : List Entry) : Type 0 where
+-- whether a payload is read as a response
+abbrev pub is_read : Setting → List ℕ → Bool
+is_read s payload = is_some (s.read payload)
+
+-- a history of what the session lists: each actor's events, all of them, each once, in their order
+pub record IsHistoryOf (session : Session) (s : Setting) (history : List Entry) : Type 0 where
   pub right : Right s history
-  pub played : (actor : ℕ) (list : List Listed) → slice_get plan actor ≡ Some list → IsPlayed list (reverse (of_actor actor history))
-  pub opened : AreOpen plan history
+  pub listed : AreListed (is_read s) session.callers session.lines (reverse history)
+  pub started : (caller : ℕ) → AreStarted (entries_by caller (reverse history))
+  pub opened : AreOpen session.lines history
   pub ends : EndsInSweep history
+
+-- the same for the session's own bootstrap and target
+abbrev pub Legal : Session → List Entry → Type 0
+Legal session history = IsHistoryOf session (setting_of session.boot session.target) history

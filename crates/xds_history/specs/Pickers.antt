@@ -1,5 +1,5 @@
 -- What is seen of trees, and their pickers (gRFC A56, gRPC's weighted_target and round_robin policies).
-use Rattle.std.specs.Prelude.{ℕ, ◌==◌, List, [], ◌∷◌, map, length, if◌then◌else◌, Option, Some, None, Result, Ok, Err, unwrap_or, option_map}
+use Rattle.std.specs.Prelude.{ℕ, ◌==◌, List, [], ◌∷◌, map, length, if◌then◌else◌, Option, Some, None, Result, Ok, Err, option_map}
 use Rattle.std.specs.List.{list_all, filter, filter_map, find, enumerate_from}
 use Rattle.std.specs.Option.{option_map_or}
 use Rattle.std.specs.Str.{bytes_eq}

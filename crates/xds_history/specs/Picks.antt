@@ -1,5 +1,5 @@
 -- What a pick is answered (gRPC's drop policy, weighted_target and round_robin, with this project's own draws).
-use Rattle.std.specs.Prelude.{ℕ, ◌+◌, ◌%◌, ◌==◌, List, [], ◌∷◌, length, Bool, false, ◌&&◌, if◌then◌else◌, Option, Some, None, Result, Ok, Err, unwrap_or, option_map, option_and_then, slice_get}
+use Rattle.std.specs.Prelude.{ℕ, ◌+◌, ◌%◌, List, [], ◌∷◌, length, Bool, false, ◌&&◌, if◌then◌else◌, Option, Some, None, Result, Ok, Err, option_map, option_and_then, slice_get}
 use Rattle.std.specs.Option.{option_map_or}
 use Rattle.std.specs.Str.{bytes_eq}
 use Rattle.xc_base.specs.declared.names.CallId.{CallId}
@@ -12,7 +12,6 @@ use Rattle.weighted_lb.specs.declared.picker.PickBody.{PickBody}
 use Rattle.weighted_lb.specs.declared.picker.Chosen.{Chosen}
 use Rattle.weighted_lb.specs.Pick.{choice}
 use Rattle.priority_lb.specs.History as children
-use Rattle.graceful_switch.specs.Takeover.{Pair}
 use Rattle.cluster_tree.specs.declared.snapshot.TreeView.{TreeView}
 use Rattle.cluster_tree.specs.declared.snapshot.Snapshot.{Snapshot}
 use Rattle.call_journal.specs.declared.event.CallerEvent.{CallerEvent}

@@ -1,6 +1,6 @@
 -- The trees of the clusters: their children, and which serve and which wait (gRFC A56, A37; the switch between kinds of
 -- cluster is this project's own, after gRPC's).
-use Rattle.std.specs.Prelude.{ℕ, ◌+◌, ◌==◌, max, List, [], ◌∷◌, map, Bool, true, false, not, if◌then◌else◌, Option, Some, None, Result, Ok, Err, unwrap_or, option_map, slice_get}
+use Rattle.std.specs.Prelude.{ℕ, ◌+◌, ◌==◌, max, List, [], ◌∷◌, map, Bool, not, if◌then◌else◌, Option, Some, None, Result, Ok, Err, unwrap_or, option_map, slice_get}
 use Rattle.std.specs.List.{find, filter, filter_map, flat_map, range_with_len, zip}
 use Rattle.std.specs.Option.{option_map_or}
 use Rattle.std.specs.Str.{bytes_eq}
@@ -109,7 +109,7 @@ alone tree = record { serving = tree; waiting = None }
 abbrev pub switched : Present → Leaves → Pair Tree → Pair Tree
 switched present leaves before =
     settled tree_state (grown present (leaves_now before.serving) before.serving)
-        (Some (grown present leaves.leaves (unwrap_or before.waiting (new_tree leaves.aggregate))))
+    (Some (grown present leaves.leaves (unwrap_or before.waiting (new_tree leaves.aggregate))))
 
 -- a cluster that had no tree gets a new one; one of the cluster's kind follows, and none waits then; else they are switched
 abbrev pub trees_with : Present → Leaves → Option (Pair Tree) → Pair Tree

@@ -1,10 +1,7 @@
 -- Chain 17.
-use Rattle.std.specs.Prelude.{◌≡◌, refl, ℕ, List, [], ◌∷◌, true, false, Option, Some, None, Ok, Err, codes}
+use Rattle.std.specs.Prelude.{◌≡◌, refl, List, [], ◌∷◌, true, Some, None, Ok, Err, codes}
 use Rattle.xc_base.specs.declared.names.Kind.{Kind}
 use Rattle.xc_base.specs.declared.names.Key.{Key}
-use Rattle.xc_base.specs.declared.names.Home.{Home}
-use Rattle.xc_base.specs.declared.names.NameFault.{NameFault}
-use Rattle.xc_base.specs.declared.names.State.{State}
 use Rattle.xc_base.specs.declared.reason.Reason.{Reason}
 use Rattle.xds_config.specs.declared.value.Value.{Value}
 use Rattle.xds_config.specs.declared.listener_values.RoutesFrom.{RoutesFrom}
@@ -12,22 +9,16 @@ use Rattle.xds_config.specs.declared.route_values.RouteValue.{RouteValue}
 use Rattle.xds_config.specs.declared.route_values.PathTest.{PathTest}
 use Rattle.xds_config.specs.declared.route_values.Action.{Action}
 use Rattle.xds_config.specs.declared.cluster_values.Shape.{Shape}
-use Rattle.xds_config.specs.declared.endpoint_values.EndpointValue.{EndpointValue}
-use Rattle.resource_check.specs.declared.fault.Stop.{Stop}
-use Rattle.route_match.specs.declared.answer.RouteAnswer.{RouteAnswer}
 use Rattle.aggregate_expand.specs.Leaves.{goes_on, ends, leaves_within}
-use Rattle.weighted_lb.specs.declared.picker.PickBody.{PickBody}
 use Rattle.cluster_tree.specs.declared.snapshot.Snapshot.{Snapshot}
 use Rattle.ads_stream.specs.declared.verdict.Verdict.{Verdict}
 use Rattle.call_journal.specs.declared.event.BytesHow.{BytesHow}
 use Rattle.call_journal.specs.declared.event.DriverEvent.{DriverEvent}
-use Rattle.call_journal.specs.declared.event.CallerEvent.{CallerEvent}
-use Rattle.call_journal.specs.declared.reply.CallerReply.{CallerReply}
 use Rattle.call_journal.specs.declared.entry.Entry.{Entry}
 use Rattle.xds_history.specs.Words.{Name}
 use Rattle.xds_history.specs.Setting.{Setting}
 use Rattle.xds_history.specs.Right.{shown}
-use Rattle.xds_history.proofs.Rows.{a_node, response, setting_with, key_from, driven, called, on_line, replayed, as_made, snapshots, quiet}
+use Rattle.xds_history.proofs.Rows.{a_node, response, setting_with, key_from, driven, on_line, replayed, as_made, snapshots, quiet}
 
 abbrev text0 : Name
 text0 = codes "svc"
@@ -54,7 +45,7 @@ abbrev text7 : Name
 text7 = codes "r"
 
 abbrev routes8 : RouteValue
-routes8 = (record { name = text7; hosts = ((record { name = text4; domains = (text5 ∷ []); routes = ((record { place = 0; path = (PathTest.Prefix text6 true); headers = []; fraction = None; action = (Action.To ((record { cluster = text1; weight = 1 }) ∷ [])) }) ∷ []) }) ∷ []) })
+routes8 = (record { name = text7; hosts = ((record { name = text4; domains = (text5 ∷ []); routes = ((record { place = 0; path = (PathTest.Prefix text6 true); headers = ([]); fraction = None; action = (Action.To ((record { cluster = text1; weight = 1 }) ∷ [])) }) ∷ []) }) ∷ []) })
 
 abbrev text9 : Name
 text9 = codes "k1"
@@ -161,112 +152,112 @@ set = setting_with key 1 text0 text0
     ((Ok (record { name = text0; value = (Value.Listener (record { name = text0; routes = (RoutesFrom.Inline routes8) })) })) ∷ (Ok (record { name = text1; value = (Value.Cluster (record { name = text1; shape = (Shape.Aggregate (text9 ∷ [])) })) })) ∷ (Ok (record { name = text9; value = (Value.Cluster (record { name = text9; shape = (Shape.Aggregate (text11 ∷ [])) })) })) ∷ (Ok (record { name = text11; value = (Value.Cluster (record { name = text11; shape = (Shape.Aggregate (text12 ∷ [])) })) })) ∷ (Ok (record { name = text12; value = (Value.Cluster (record { name = text12; shape = (Shape.Aggregate (text13 ∷ [])) })) })) ∷ (Ok (record { name = text13; value = (Value.Cluster (record { name = text13; shape = (Shape.Aggregate (text14 ∷ [])) })) })) ∷ (Ok (record { name = text14; value = (Value.Cluster (record { name = text14; shape = (Shape.Aggregate (text15 ∷ [])) })) })) ∷ (Ok (record { name = text15; value = (Value.Cluster (record { name = text15; shape = (Shape.Aggregate (text16 ∷ [])) })) })) ∷ (Ok (record { name = text16; value = (Value.Cluster (record { name = text16; shape = (Shape.Aggregate (text17 ∷ [])) })) })) ∷ (Ok (record { name = text17; value = (Value.Cluster (record { name = text17; shape = (Shape.Aggregate (text18 ∷ [])) })) })) ∷ (Ok (record { name = text18; value = (Value.Cluster (record { name = text18; shape = (Shape.Aggregate (text19 ∷ [])) })) })) ∷ (Ok (record { name = text19; value = (Value.Cluster (record { name = text19; shape = (Shape.Aggregate (text20 ∷ [])) })) })) ∷ (Ok (record { name = text20; value = (Value.Cluster (record { name = text20; shape = (Shape.Aggregate (text21 ∷ [])) })) })) ∷ (Ok (record { name = text21; value = (Value.Cluster (record { name = text21; shape = (Shape.Aggregate (text22 ∷ [])) })) })) ∷ (Ok (record { name = text22; value = (Value.Cluster (record { name = text22; shape = (Shape.Aggregate (text23 ∷ [])) })) })) ∷ (Ok (record { name = text23; value = (Value.Cluster (record { name = text23; shape = (Shape.Aggregate (text24 ∷ [])) })) })) ∷ (Ok (record { name = text24; value = (Value.Cluster (record { name = text24; shape = (Shape.Aggregate (text25 ∷ [])) })) })) ∷ (Ok (record { name = text25; value = (Value.Cluster (record { name = text25; shape = (Shape.Eds []) })) })) ∷ (Ok (record { name = text1; value = (Value.Cluster (record { name = text1; shape = (Shape.Aggregate (text9 ∷ [])) })) })) ∷ (Ok (record { name = text9; value = (Value.Cluster (record { name = text9; shape = (Shape.Aggregate (text11 ∷ [])) })) })) ∷ (Ok (record { name = text11; value = (Value.Cluster (record { name = text11; shape = (Shape.Aggregate (text12 ∷ [])) })) })) ∷ (Ok (record { name = text12; value = (Value.Cluster (record { name = text12; shape = (Shape.Aggregate (text13 ∷ [])) })) })) ∷ (Ok (record { name = text13; value = (Value.Cluster (record { name = text13; shape = (Shape.Aggregate (text14 ∷ [])) })) })) ∷ (Ok (record { name = text14; value = (Value.Cluster (record { name = text14; shape = (Shape.Aggregate (text15 ∷ [])) })) })) ∷ (Ok (record { name = text15; value = (Value.Cluster (record { name = text15; shape = (Shape.Aggregate (text16 ∷ [])) })) })) ∷ (Ok (record { name = text16; value = (Value.Cluster (record { name = text16; shape = (Shape.Aggregate (text17 ∷ [])) })) })) ∷ (Ok (record { name = text17; value = (Value.Cluster (record { name = text17; shape = (Shape.Aggregate (text18 ∷ [])) })) })) ∷ (Ok (record { name = text18; value = (Value.Cluster (record { name = text18; shape = (Shape.Aggregate (text19 ∷ [])) })) })) ∷ (Ok (record { name = text19; value = (Value.Cluster (record { name = text19; shape = (Shape.Aggregate (text20 ∷ [])) })) })) ∷ (Ok (record { name = text20; value = (Value.Cluster (record { name = text20; shape = (Shape.Aggregate (text21 ∷ [])) })) })) ∷ (Ok (record { name = text21; value = (Value.Cluster (record { name = text21; shape = (Shape.Aggregate (text22 ∷ [])) })) })) ∷ (Ok (record { name = text22; value = (Value.Cluster (record { name = text22; shape = (Shape.Aggregate (text23 ∷ [])) })) })) ∷ (Ok (record { name = text23; value = (Value.Cluster (record { name = text23; shape = (Shape.Aggregate (text24 ∷ [])) })) })) ∷ (Ok (record { name = text24; value = (Value.Cluster (record { name = text24; shape = (Shape.Aggregate (text25 ∷ [])) })) })) ∷ (Ok (record { name = text25; value = (Value.Cluster (record { name = text25; shape = (Shape.Eds []) })) })) ∷ (Ok (record { name = text1; value = (Value.Cluster (record { name = text1; shape = (Shape.Aggregate (text9 ∷ [])) })) })) ∷ (Ok (record { name = text9; value = (Value.Cluster (record { name = text9; shape = (Shape.Aggregate (text11 ∷ [])) })) })) ∷ (Ok (record { name = text11; value = (Value.Cluster (record { name = text11; shape = (Shape.Aggregate (text12 ∷ [])) })) })) ∷ (Ok (record { name = text12; value = (Value.Cluster (record { name = text12; shape = (Shape.Aggregate (text13 ∷ [])) })) })) ∷ (Ok (record { name = text13; value = (Value.Cluster (record { name = text13; shape = (Shape.Aggregate (text14 ∷ [])) })) })) ∷ (Ok (record { name = text14; value = (Value.Cluster (record { name = text14; shape = (Shape.Aggregate (text15 ∷ [])) })) })) ∷ (Ok (record { name = text15; value = (Value.Cluster (record { name = text15; shape = (Shape.Aggregate (text16 ∷ [])) })) })) ∷ (Ok (record { name = text16; value = (Value.Cluster (record { name = text16; shape = (Shape.Aggregate (text17 ∷ [])) })) })) ∷ (Ok (record { name = text17; value = (Value.Cluster (record { name = text17; shape = (Shape.Aggregate (text18 ∷ [])) })) })) ∷ (Ok (record { name = text18; value = (Value.Cluster (record { name = text18; shape = (Shape.Aggregate (text19 ∷ [])) })) })) ∷ (Ok (record { name = text19; value = (Value.Cluster (record { name = text19; shape = (Shape.Aggregate (text20 ∷ [])) })) })) ∷ (Ok (record { name = text20; value = (Value.Cluster (record { name = text20; shape = (Shape.Aggregate (text21 ∷ [])) })) })) ∷ (Ok (record { name = text21; value = (Value.Cluster (record { name = text21; shape = (Shape.Aggregate (text22 ∷ [])) })) })) ∷ (Ok (record { name = text22; value = (Value.Cluster (record { name = text22; shape = (Shape.Aggregate (text23 ∷ [])) })) })) ∷ (Ok (record { name = text23; value = (Value.Cluster (record { name = text23; shape = (Shape.Aggregate (text24 ∷ [])) })) })) ∷ (Ok (record { name = text24; value = (Value.Cluster (record { name = text24; shape = (Shape.Aggregate (text25 ∷ [])) })) })) ∷ (Ok (record { name = text25; value = (Value.Cluster (record { name = text25; shape = (Shape.Eds []) })) })) ∷ (Ok (record { name = text1; value = (Value.Cluster (record { name = text1; shape = (Shape.Aggregate (text9 ∷ [])) })) })) ∷ (Ok (record { name = text9; value = (Value.Cluster (record { name = text9; shape = (Shape.Aggregate (text11 ∷ [])) })) })) ∷ (Ok (record { name = text11; value = (Value.Cluster (record { name = text11; shape = (Shape.Aggregate (text12 ∷ [])) })) })) ∷ (Ok (record { name = text12; value = (Value.Cluster (record { name = text12; shape = (Shape.Aggregate (text13 ∷ [])) })) })) ∷ (Ok (record { name = text13; value = (Value.Cluster (record { name = text13; shape = (Shape.Aggregate (text14 ∷ [])) })) })) ∷ (Ok (record { name = text14; value = (Value.Cluster (record { name = text14; shape = (Shape.Aggregate (text15 ∷ [])) })) })) ∷ (Ok (record { name = text15; value = (Value.Cluster (record { name = text15; shape = (Shape.Aggregate (text16 ∷ [])) })) })) ∷ (Ok (record { name = text16; value = (Value.Cluster (record { name = text16; shape = (Shape.Aggregate (text17 ∷ [])) })) })) ∷ (Ok (record { name = text17; value = (Value.Cluster (record { name = text17; shape = (Shape.Aggregate (text18 ∷ [])) })) })) ∷ (Ok (record { name = text18; value = (Value.Cluster (record { name = text18; shape = (Shape.Aggregate (text19 ∷ [])) })) })) ∷ (Ok (record { name = text19; value = (Value.Cluster (record { name = text19; shape = (Shape.Aggregate (text20 ∷ [])) })) })) ∷ (Ok (record { name = text20; value = (Value.Cluster (record { name = text20; shape = (Shape.Aggregate (text21 ∷ [])) })) })) ∷ (Ok (record { name = text21; value = (Value.Cluster (record { name = text21; shape = (Shape.Aggregate (text22 ∷ [])) })) })) ∷ (Ok (record { name = text22; value = (Value.Cluster (record { name = text22; shape = (Shape.Aggregate (text23 ∷ [])) })) })) ∷ (Ok (record { name = text23; value = (Value.Cluster (record { name = text23; shape = (Shape.Aggregate (text24 ∷ [])) })) })) ∷ (Ok (record { name = text24; value = (Value.Cluster (record { name = text24; shape = (Shape.Aggregate (text25 ∷ [])) })) })) ∷ (Ok (record { name = text25; value = (Value.Cluster (record { name = text25; shape = (Shape.Eds []) })) })) ∷ (Ok (record { name = text1; value = (Value.Cluster (record { name = text1; shape = (Shape.Aggregate (text9 ∷ [])) })) })) ∷ (Ok (record { name = text9; value = (Value.Cluster (record { name = text9; shape = (Shape.Aggregate (text11 ∷ [])) })) })) ∷ (Ok (record { name = text11; value = (Value.Cluster (record { name = text11; shape = (Shape.Aggregate (text12 ∷ [])) })) })) ∷ (Ok (record { name = text12; value = (Value.Cluster (record { name = text12; shape = (Shape.Aggregate (text13 ∷ [])) })) })) ∷ (Ok (record { name = text13; value = (Value.Cluster (record { name = text13; shape = (Shape.Aggregate (text14 ∷ [])) })) })) ∷ (Ok (record { name = text14; value = (Value.Cluster (record { name = text14; shape = (Shape.Aggregate (text15 ∷ [])) })) })) ∷ (Ok (record { name = text15; value = (Value.Cluster (record { name = text15; shape = (Shape.Aggregate (text16 ∷ [])) })) })) ∷ (Ok (record { name = text16; value = (Value.Cluster (record { name = text16; shape = (Shape.Aggregate (text17 ∷ [])) })) })) ∷ (Ok (record { name = text17; value = (Value.Cluster (record { name = text17; shape = (Shape.Aggregate (text18 ∷ [])) })) })) ∷ (Ok (record { name = text18; value = (Value.Cluster (record { name = text18; shape = (Shape.Aggregate (text19 ∷ [])) })) })) ∷ (Ok (record { name = text19; value = (Value.Cluster (record { name = text19; shape = (Shape.Aggregate (text20 ∷ [])) })) })) ∷ (Ok (record { name = text20; value = (Value.Cluster (record { name = text20; shape = (Shape.Aggregate (text21 ∷ [])) })) })) ∷ (Ok (record { name = text21; value = (Value.Cluster (record { name = text21; shape = (Shape.Aggregate (text22 ∷ [])) })) })) ∷ (Ok (record { name = text22; value = (Value.Cluster (record { name = text22; shape = (Shape.Aggregate (text23 ∷ [])) })) })) ∷ (Ok (record { name = text23; value = (Value.Cluster (record { name = text23; shape = (Shape.Aggregate (text24 ∷ [])) })) })) ∷ (Ok (record { name = text24; value = (Value.Cluster (record { name = text24; shape = (Shape.Aggregate (text25 ∷ [])) })) })) ∷ (Ok (record { name = text25; value = (Value.Cluster (record { name = text25; shape = (Shape.Eds []) })) })) ∷ (Ok (record { name = text1; value = (Value.Cluster (record { name = text1; shape = (Shape.Aggregate (text9 ∷ [])) })) })) ∷ (Ok (record { name = text9; value = (Value.Cluster (record { name = text9; shape = (Shape.Aggregate (text11 ∷ [])) })) })) ∷ (Ok (record { name = text11; value = (Value.Cluster (record { name = text11; shape = (Shape.Aggregate (text12 ∷ [])) })) })) ∷ (Ok (record { name = text12; value = (Value.Cluster (record { name = text12; shape = (Shape.Aggregate (text13 ∷ [])) })) })) ∷ (Ok (record { name = text13; value = (Value.Cluster (record { name = text13; shape = (Shape.Aggregate (text14 ∷ [])) })) })) ∷ (Ok (record { name = text14; value = (Value.Cluster (record { name = text14; shape = (Shape.Aggregate (text15 ∷ [])) })) })) ∷ (Ok (record { name = text15; value = (Value.Cluster (record { name = text15; shape = (Shape.Aggregate (text16 ∷ [])) })) })) ∷ (Ok (record { name = text16; value = (Value.Cluster (record { name = text16; shape = (Shape.Aggregate (text17 ∷ [])) })) })) ∷ (Ok (record { name = text17; value = (Value.Cluster (record { name = text17; shape = (Shape.Aggregate (text18 ∷ [])) })) })) ∷ (Ok (record { name = text18; value = (Value.Cluster (record { name = text18; shape = (Shape.Aggregate (text19 ∷ [])) })) })) ∷ (Ok (record { name = text19; value = (Value.Cluster (record { name = text19; shape = (Shape.Aggregate (text20 ∷ [])) })) })) ∷ (Ok (record { name = text20; value = (Value.Cluster (record { name = text20; shape = (Shape.Aggregate (text21 ∷ [])) })) })) ∷ (Ok (record { name = text21; value = (Value.Cluster (record { name = text21; shape = (Shape.Aggregate (text22 ∷ [])) })) })) ∷ (Ok (record { name = text22; value = (Value.Cluster (record { name = text22; shape = (Shape.Aggregate (text23 ∷ [])) })) })) ∷ (Ok (record { name = text23; value = (Value.Cluster (record { name = text23; shape = (Shape.Aggregate (text24 ∷ [])) })) })) ∷ (Ok (record { name = text24; value = (Value.Cluster (record { name = text24; shape = (Shape.Aggregate (text25 ∷ [])) })) })) ∷ (Ok (record { name = text25; value = (Value.Cluster (record { name = text25; shape = (Shape.Eds []) })) })) ∷ (Ok (record { name = text1; value = (Value.Cluster (record { name = text1; shape = (Shape.Aggregate (text9 ∷ [])) })) })) ∷ (Ok (record { name = text9; value = (Value.Cluster (record { name = text9; shape = (Shape.Aggregate (text11 ∷ [])) })) })) ∷ (Ok (record { name = text11; value = (Value.Cluster (record { name = text11; shape = (Shape.Aggregate (text12 ∷ [])) })) })) ∷ (Ok (record { name = text12; value = (Value.Cluster (record { name = text12; shape = (Shape.Aggregate (text13 ∷ [])) })) })) ∷ (Ok (record { name = text13; value = (Value.Cluster (record { name = text13; shape = (Shape.Aggregate (text14 ∷ [])) })) })) ∷ (Ok (record { name = text14; value = (Value.Cluster (record { name = text14; shape = (Shape.Aggregate (text15 ∷ [])) })) })) ∷ (Ok (record { name = text15; value = (Value.Cluster (record { name = text15; shape = (Shape.Aggregate (text16 ∷ [])) })) })) ∷ (Ok (record { name = text16; value = (Value.Cluster (record { name = text16; shape = (Shape.Aggregate (text17 ∷ [])) })) })) ∷ (Ok (record { name = text17; value = (Value.Cluster (record { name = text17; shape = (Shape.Aggregate (text18 ∷ [])) })) })) ∷ (Ok (record { name = text18; value = (Value.Cluster (record { name = text18; shape = (Shape.Aggregate (text19 ∷ [])) })) })) ∷ (Ok (record { name = text19; value = (Value.Cluster (record { name = text19; shape = (Shape.Aggregate (text20 ∷ [])) })) })) ∷ (Ok (record { name = text20; value = (Value.Cluster (record { name = text20; shape = (Shape.Aggregate (text21 ∷ [])) })) })) ∷ (Ok (record { name = text21; value = (Value.Cluster (record { name = text21; shape = (Shape.Aggregate (text22 ∷ [])) })) })) ∷ (Ok (record { name = text22; value = (Value.Cluster (record { name = text22; shape = (Shape.Aggregate (text23 ∷ [])) })) })) ∷ (Ok (record { name = text23; value = (Value.Cluster (record { name = text23; shape = (Shape.Aggregate (text24 ∷ [])) })) })) ∷ (Ok (record { name = text24; value = (Value.Cluster (record { name = text24; shape = (Shape.Aggregate (text25 ∷ [])) })) })) ∷ (Ok (record { name = text25; value = (Value.Cluster (record { name = text25; shape = (Shape.Eds []) })) })) ∷ (Ok (record { name = text1; value = (Value.Cluster (record { name = text1; shape = (Shape.Aggregate (text9 ∷ [])) })) })) ∷ (Ok (record { name = text9; value = (Value.Cluster (record { name = text9; shape = (Shape.Aggregate (text11 ∷ [])) })) })) ∷ (Ok (record { name = text11; value = (Value.Cluster (record { name = text11; shape = (Shape.Aggregate (text12 ∷ [])) })) })) ∷ (Ok (record { name = text12; value = (Value.Cluster (record { name = text12; shape = (Shape.Aggregate (text13 ∷ [])) })) })) ∷ (Ok (record { name = text13; value = (Value.Cluster (record { name = text13; shape = (Shape.Aggregate (text14 ∷ [])) })) })) ∷ (Ok (record { name = text14; value = (Value.Cluster (record { name = text14; shape = (Shape.Aggregate (text15 ∷ [])) })) })) ∷ (Ok (record { name = text15; value = (Value.Cluster (record { name = text15; shape = (Shape.Aggregate (text16 ∷ [])) })) })) ∷ (Ok (record { name = text16; value = (Value.Cluster (record { name = text16; shape = (Shape.Aggregate (text17 ∷ [])) })) })) ∷ (Ok (record { name = text17; value = (Value.Cluster (record { name = text17; shape = (Shape.Aggregate (text18 ∷ [])) })) })) ∷ (Ok (record { name = text18; value = (Value.Cluster (record { name = text18; shape = (Shape.Aggregate (text19 ∷ [])) })) })) ∷ (Ok (record { name = text19; value = (Value.Cluster (record { name = text19; shape = (Shape.Aggregate (text20 ∷ [])) })) })) ∷ (Ok (record { name = text20; value = (Value.Cluster (record { name = text20; shape = (Shape.Aggregate (text21 ∷ [])) })) })) ∷ (Ok (record { name = text21; value = (Value.Cluster (record { name = text21; shape = (Shape.Aggregate (text22 ∷ [])) })) })) ∷ (Ok (record { name = text22; value = (Value.Cluster (record { name = text22; shape = (Shape.Aggregate (text23 ∷ [])) })) })) ∷ (Ok (record { name = text23; value = (Value.Cluster (record { name = text23; shape = (Shape.Aggregate (text24 ∷ [])) })) })) ∷ (Ok (record { name = text24; value = (Value.Cluster (record { name = text24; shape = (Shape.Aggregate (text25 ∷ [])) })) })) ∷ (Ok (record { name = text25; value = (Value.Cluster (record { name = text25; shape = (Shape.Eds []) })) })) ∷ (Ok (record { name = text1; value = (Value.Cluster (record { name = text1; shape = (Shape.Aggregate (text9 ∷ [])) })) })) ∷ (Ok (record { name = text9; value = (Value.Cluster (record { name = text9; shape = (Shape.Aggregate (text11 ∷ [])) })) })) ∷ (Ok (record { name = text11; value = (Value.Cluster (record { name = text11; shape = (Shape.Aggregate (text12 ∷ [])) })) })) ∷ (Ok (record { name = text12; value = (Value.Cluster (record { name = text12; shape = (Shape.Aggregate (text13 ∷ [])) })) })) ∷ (Ok (record { name = text13; value = (Value.Cluster (record { name = text13; shape = (Shape.Aggregate (text14 ∷ [])) })) })) ∷ (Ok (record { name = text14; value = (Value.Cluster (record { name = text14; shape = (Shape.Aggregate (text15 ∷ [])) })) })) ∷ (Ok (record { name = text15; value = (Value.Cluster (record { name = text15; shape = (Shape.Aggregate (text16 ∷ [])) })) })) ∷ (Ok (record { name = text16; value = (Value.Cluster (record { name = text16; shape = (Shape.Aggregate (text17 ∷ [])) })) })) ∷ (Ok (record { name = text17; value = (Value.Cluster (record { name = text17; shape = (Shape.Aggregate (text18 ∷ [])) })) })) ∷ (Ok (record { name = text18; value = (Value.Cluster (record { name = text18; shape = (Shape.Aggregate (text19 ∷ [])) })) })) ∷ (Ok (record { name = text19; value = (Value.Cluster (record { name = text19; shape = (Shape.Aggregate (text20 ∷ [])) })) })) ∷ (Ok (record { name = text20; value = (Value.Cluster (record { name = text20; shape = (Shape.Aggregate (text21 ∷ [])) })) })) ∷ (Ok (record { name = text21; value = (Value.Cluster (record { name = text21; shape = (Shape.Aggregate (text22 ∷ [])) })) })) ∷ (Ok (record { name = text22; value = (Value.Cluster (record { name = text22; shape = (Shape.Aggregate (text23 ∷ [])) })) })) ∷ (Ok (record { name = text23; value = (Value.Cluster (record { name = text23; shape = (Shape.Aggregate (text24 ∷ [])) })) })) ∷ (Ok (record { name = text24; value = (Value.Cluster (record { name = text24; shape = (Shape.Aggregate (text25 ∷ [])) })) })) ∷ (Ok (record { name = text25; value = (Value.Cluster (record { name = text25; shape = (Shape.Eds []) })) })) ∷ (Ok (record { name = text1; value = (Value.Cluster (record { name = text1; shape = (Shape.Aggregate (text9 ∷ [])) })) })) ∷ (Ok (record { name = text9; value = (Value.Cluster (record { name = text9; shape = (Shape.Aggregate (text11 ∷ [])) })) })) ∷ (Ok (record { name = text11; value = (Value.Cluster (record { name = text11; shape = (Shape.Aggregate (text12 ∷ [])) })) })) ∷ (Ok (record { name = text12; value = (Value.Cluster (record { name = text12; shape = (Shape.Aggregate (text13 ∷ [])) })) })) ∷ (Ok (record { name = text13; value = (Value.Cluster (record { name = text13; shape = (Shape.Aggregate (text14 ∷ [])) })) })) ∷ (Ok (record { name = text14; value = (Value.Cluster (record { name = text14; shape = (Shape.Aggregate (text15 ∷ [])) })) })) ∷ (Ok (record { name = text15; value = (Value.Cluster (record { name = text15; shape = (Shape.Aggregate (text16 ∷ [])) })) })) ∷ (Ok (record { name = text16; value = (Value.Cluster (record { name = text16; shape = (Shape.Aggregate (text17 ∷ [])) })) })) ∷ (Ok (record { name = text17; value = (Value.Cluster (record { name = text17; shape = (Shape.Aggregate (text18 ∷ [])) })) })) ∷ (Ok (record { name = text18; value = (Value.Cluster (record { name = text18; shape = (Shape.Aggregate (text19 ∷ [])) })) })) ∷ (Ok (record { name = text19; value = (Value.Cluster (record { name = text19; shape = (Shape.Aggregate (text20 ∷ [])) })) })) ∷ (Ok (record { name = text20; value = (Value.Cluster (record { name = text20; shape = (Shape.Aggregate (text21 ∷ [])) })) })) ∷ (Ok (record { name = text21; value = (Value.Cluster (record { name = text21; shape = (Shape.Aggregate (text22 ∷ [])) })) })) ∷ (Ok (record { name = text22; value = (Value.Cluster (record { name = text22; shape = (Shape.Aggregate (text23 ∷ [])) })) })) ∷ (Ok (record { name = text23; value = (Value.Cluster (record { name = text23; shape = (Shape.Aggregate (text24 ∷ [])) })) })) ∷ (Ok (record { name = text24; value = (Value.Cluster (record { name = text24; shape = (Shape.Aggregate (text25 ∷ [])) })) })) ∷ (Ok (record { name = text25; value = (Value.Cluster (record { name = text25; shape = (Shape.Eds []) })) })) ∷ (Ok (record { name = text1; value = (Value.Cluster (record { name = text1; shape = (Shape.Aggregate (text9 ∷ [])) })) })) ∷ (Ok (record { name = text9; value = (Value.Cluster (record { name = text9; shape = (Shape.Aggregate (text11 ∷ [])) })) })) ∷ (Ok (record { name = text11; value = (Value.Cluster (record { name = text11; shape = (Shape.Aggregate (text12 ∷ [])) })) })) ∷ (Ok (record { name = text12; value = (Value.Cluster (record { name = text12; shape = (Shape.Aggregate (text13 ∷ [])) })) })) ∷ (Ok (record { name = text13; value = (Value.Cluster (record { name = text13; shape = (Shape.Aggregate (text14 ∷ [])) })) })) ∷ (Ok (record { name = text14; value = (Value.Cluster (record { name = text14; shape = (Shape.Aggregate (text15 ∷ [])) })) })) ∷ (Ok (record { name = text15; value = (Value.Cluster (record { name = text15; shape = (Shape.Aggregate (text16 ∷ [])) })) })) ∷ (Ok (record { name = text16; value = (Value.Cluster (record { name = text16; shape = (Shape.Aggregate (text17 ∷ [])) })) })) ∷ (Ok (record { name = text17; value = (Value.Cluster (record { name = text17; shape = (Shape.Aggregate (text18 ∷ [])) })) })) ∷ (Ok (record { name = text18; value = (Value.Cluster (record { name = text18; shape = (Shape.Aggregate (text19 ∷ [])) })) })) ∷ (Ok (record { name = text19; value = (Value.Cluster (record { name = text19; shape = (Shape.Aggregate (text20 ∷ [])) })) })) ∷ (Ok (record { name = text20; value = (Value.Cluster (record { name = text20; shape = (Shape.Aggregate (text21 ∷ [])) })) })) ∷ (Ok (record { name = text21; value = (Value.Cluster (record { name = text21; shape = (Shape.Aggregate (text22 ∷ [])) })) })) ∷ (Ok (record { name = text22; value = (Value.Cluster (record { name = text22; shape = (Shape.Aggregate (text23 ∷ [])) })) })) ∷ (Ok (record { name = text23; value = (Value.Cluster (record { name = text23; shape = (Shape.Aggregate (text24 ∷ [])) })) })) ∷ (Ok (record { name = text24; value = (Value.Cluster (record { name = text24; shape = (Shape.Aggregate (text25 ∷ [])) })) })) ∷ (Ok (record { name = text25; value = (Value.Cluster (record { name = text25; shape = (Shape.Eds []) })) })) ∷ (Ok (record { name = text1; value = (Value.Cluster (record { name = text1; shape = (Shape.Aggregate (text9 ∷ [])) })) })) ∷ (Ok (record { name = text9; value = (Value.Cluster (record { name = text9; shape = (Shape.Aggregate (text11 ∷ [])) })) })) ∷ (Ok (record { name = text11; value = (Value.Cluster (record { name = text11; shape = (Shape.Aggregate (text12 ∷ [])) })) })) ∷ (Ok (record { name = text12; value = (Value.Cluster (record { name = text12; shape = (Shape.Aggregate (text13 ∷ [])) })) })) ∷ (Ok (record { name = text13; value = (Value.Cluster (record { name = text13; shape = (Shape.Aggregate (text14 ∷ [])) })) })) ∷ (Ok (record { name = text14; value = (Value.Cluster (record { name = text14; shape = (Shape.Aggregate (text15 ∷ [])) })) })) ∷ (Ok (record { name = text15; value = (Value.Cluster (record { name = text15; shape = (Shape.Aggregate (text16 ∷ [])) })) })) ∷ (Ok (record { name = text16; value = (Value.Cluster (record { name = text16; shape = (Shape.Aggregate (text17 ∷ [])) })) })) ∷ (Ok (record { name = text17; value = (Value.Cluster (record { name = text17; shape = (Shape.Aggregate (text18 ∷ [])) })) })) ∷ (Ok (record { name = text18; value = (Value.Cluster (record { name = text18; shape = (Shape.Aggregate (text19 ∷ [])) })) })) ∷ (Ok (record { name = text19; value = (Value.Cluster (record { name = text19; shape = (Shape.Aggregate (text20 ∷ [])) })) })) ∷ (Ok (record { name = text20; value = (Value.Cluster (record { name = text20; shape = (Shape.Aggregate (text21 ∷ [])) })) })) ∷ (Ok (record { name = text21; value = (Value.Cluster (record { name = text21; shape = (Shape.Aggregate (text22 ∷ [])) })) })) ∷ (Ok (record { name = text22; value = (Value.Cluster (record { name = text22; shape = (Shape.Aggregate (text23 ∷ [])) })) })) ∷ (Ok (record { name = text23; value = (Value.Cluster (record { name = text23; shape = (Shape.Aggregate (text24 ∷ [])) })) })) ∷ (Ok (record { name = text24; value = (Value.Cluster (record { name = text24; shape = (Shape.Aggregate (text25 ∷ [])) })) })) ∷ (Ok (record { name = text25; value = (Value.Cluster (record { name = text25; shape = (Shape.Eds []) })) })) ∷ (Ok (record { name = text1; value = (Value.Cluster (record { name = text1; shape = (Shape.Aggregate (text9 ∷ [])) })) })) ∷ (Ok (record { name = text9; value = (Value.Cluster (record { name = text9; shape = (Shape.Aggregate (text11 ∷ [])) })) })) ∷ (Ok (record { name = text11; value = (Value.Cluster (record { name = text11; shape = (Shape.Aggregate (text12 ∷ [])) })) })) ∷ (Ok (record { name = text12; value = (Value.Cluster (record { name = text12; shape = (Shape.Aggregate (text13 ∷ [])) })) })) ∷ (Ok (record { name = text13; value = (Value.Cluster (record { name = text13; shape = (Shape.Aggregate (text14 ∷ [])) })) })) ∷ (Ok (record { name = text14; value = (Value.Cluster (record { name = text14; shape = (Shape.Aggregate (text15 ∷ [])) })) })) ∷ (Ok (record { name = text15; value = (Value.Cluster (record { name = text15; shape = (Shape.Aggregate (text16 ∷ [])) })) })) ∷ (Ok (record { name = text16; value = (Value.Cluster (record { name = text16; shape = (Shape.Aggregate (text17 ∷ [])) })) })) ∷ (Ok (record { name = text17; value = (Value.Cluster (record { name = text17; shape = (Shape.Aggregate (text18 ∷ [])) })) })) ∷ (Ok (record { name = text18; value = (Value.Cluster (record { name = text18; shape = (Shape.Aggregate (text19 ∷ [])) })) })) ∷ (Ok (record { name = text19; value = (Value.Cluster (record { name = text19; shape = (Shape.Aggregate (text20 ∷ [])) })) })) ∷ (Ok (record { name = text20; value = (Value.Cluster (record { name = text20; shape = (Shape.Aggregate (text21 ∷ [])) })) })) ∷ (Ok (record { name = text21; value = (Value.Cluster (record { name = text21; shape = (Shape.Aggregate (text22 ∷ [])) })) })) ∷ (Ok (record { name = text22; value = (Value.Cluster (record { name = text22; shape = (Shape.Aggregate (text23 ∷ [])) })) })) ∷ (Ok (record { name = text23; value = (Value.Cluster (record { name = text23; shape = (Shape.Aggregate (text24 ∷ [])) })) })) ∷ (Ok (record { name = text24; value = (Value.Cluster (record { name = text24; shape = (Shape.Aggregate (text25 ∷ [])) })) })) ∷ (Ok (record { name = text25; value = (Value.Cluster (record { name = text25; shape = (Shape.Eds []) })) })) ∷ (Ok (record { name = text1; value = (Value.Cluster (record { name = text1; shape = (Shape.Aggregate (text9 ∷ [])) })) })) ∷ (Ok (record { name = text9; value = (Value.Cluster (record { name = text9; shape = (Shape.Aggregate (text11 ∷ [])) })) })) ∷ (Ok (record { name = text11; value = (Value.Cluster (record { name = text11; shape = (Shape.Aggregate (text12 ∷ [])) })) })) ∷ (Ok (record { name = text12; value = (Value.Cluster (record { name = text12; shape = (Shape.Aggregate (text13 ∷ [])) })) })) ∷ (Ok (record { name = text13; value = (Value.Cluster (record { name = text13; shape = (Shape.Aggregate (text14 ∷ [])) })) })) ∷ (Ok (record { name = text14; value = (Value.Cluster (record { name = text14; shape = (Shape.Aggregate (text15 ∷ [])) })) })) ∷ (Ok (record { name = text15; value = (Value.Cluster (record { name = text15; shape = (Shape.Aggregate (text16 ∷ [])) })) })) ∷ (Ok (record { name = text16; value = (Value.Cluster (record { name = text16; shape = (Shape.Aggregate (text17 ∷ [])) })) })) ∷ (Ok (record { name = text17; value = (Value.Cluster (record { name = text17; shape = (Shape.Aggregate (text18 ∷ [])) })) })) ∷ (Ok (record { name = text18; value = (Value.Cluster (record { name = text18; shape = (Shape.Aggregate (text19 ∷ [])) })) })) ∷ (Ok (record { name = text19; value = (Value.Cluster (record { name = text19; shape = (Shape.Aggregate (text20 ∷ [])) })) })) ∷ (Ok (record { name = text20; value = (Value.Cluster (record { name = text20; shape = (Shape.Aggregate (text21 ∷ [])) })) })) ∷ (Ok (record { name = text21; value = (Value.Cluster (record { name = text21; shape = (Shape.Aggregate (text22 ∷ [])) })) })) ∷ (Ok (record { name = text22; value = (Value.Cluster (record { name = text22; shape = (Shape.Aggregate (text23 ∷ [])) })) })) ∷ (Ok (record { name = text23; value = (Value.Cluster (record { name = text23; shape = (Shape.Aggregate (text24 ∷ [])) })) })) ∷ (Ok (record { name = text24; value = (Value.Cluster (record { name = text24; shape = (Shape.Aggregate (text25 ∷ [])) })) })) ∷ (Ok (record { name = text25; value = (Value.Cluster (record { name = text25; shape = (Shape.Eds []) })) })) ∷ (Ok (record { name = text1; value = (Value.Cluster (record { name = text1; shape = (Shape.Aggregate (text9 ∷ [])) })) })) ∷ (Ok (record { name = text9; value = (Value.Cluster (record { name = text9; shape = (Shape.Aggregate (text11 ∷ [])) })) })) ∷ (Ok (record { name = text11; value = (Value.Cluster (record { name = text11; shape = (Shape.Aggregate (text12 ∷ [])) })) })) ∷ (Ok (record { name = text12; value = (Value.Cluster (record { name = text12; shape = (Shape.Aggregate (text13 ∷ [])) })) })) ∷ (Ok (record { name = text13; value = (Value.Cluster (record { name = text13; shape = (Shape.Aggregate (text14 ∷ [])) })) })) ∷ (Ok (record { name = text14; value = (Value.Cluster (record { name = text14; shape = (Shape.Aggregate (text15 ∷ [])) })) })) ∷ (Ok (record { name = text15; value = (Value.Cluster (record { name = text15; shape = (Shape.Aggregate (text16 ∷ [])) })) })) ∷ (Ok (record { name = text16; value = (Value.Cluster (record { name = text16; shape = (Shape.Aggregate (text17 ∷ [])) })) })) ∷ (Ok (record { name = text17; value = (Value.Cluster (record { name = text17; shape = (Shape.Aggregate (text18 ∷ [])) })) })) ∷ (Ok (record { name = text18; value = (Value.Cluster (record { name = text18; shape = (Shape.Aggregate (text19 ∷ [])) })) })) ∷ (Ok (record { name = text19; value = (Value.Cluster (record { name = text19; shape = (Shape.Aggregate (text20 ∷ [])) })) })) ∷ (Ok (record { name = text20; value = (Value.Cluster (record { name = text20; shape = (Shape.Aggregate (text21 ∷ [])) })) })) ∷ (Ok (record { name = text21; value = (Value.Cluster (record { name = text21; shape = (Shape.Aggregate (text22 ∷ [])) })) })) ∷ (Ok (record { name = text22; value = (Value.Cluster (record { name = text22; shape = (Shape.Aggregate (text23 ∷ [])) })) })) ∷ (Ok (record { name = text23; value = (Value.Cluster (record { name = text23; shape = (Shape.Aggregate (text24 ∷ [])) })) })) ∷ (Ok (record { name = text24; value = (Value.Cluster (record { name = text24; shape = (Shape.Aggregate (text25 ∷ [])) })) })) ∷ (Ok (record { name = text25; value = (Value.Cluster (record { name = text25; shape = (Shape.Eds []) })) })) ∷ (Ok (record { name = text1; value = (Value.Cluster (record { name = text1; shape = (Shape.Aggregate (text9 ∷ [])) })) })) ∷ (Ok (record { name = text9; value = (Value.Cluster (record { name = text9; shape = (Shape.Aggregate (text11 ∷ [])) })) })) ∷ (Ok (record { name = text11; value = (Value.Cluster (record { name = text11; shape = (Shape.Aggregate (text12 ∷ [])) })) })) ∷ (Ok (record { name = text12; value = (Value.Cluster (record { name = text12; shape = (Shape.Aggregate (text13 ∷ [])) })) })) ∷ (Ok (record { name = text13; value = (Value.Cluster (record { name = text13; shape = (Shape.Aggregate (text14 ∷ [])) })) })) ∷ (Ok (record { name = text14; value = (Value.Cluster (record { name = text14; shape = (Shape.Aggregate (text15 ∷ [])) })) })) ∷ (Ok (record { name = text15; value = (Value.Cluster (record { name = text15; shape = (Shape.Aggregate (text16 ∷ [])) })) })) ∷ (Ok (record { name = text16; value = (Value.Cluster (record { name = text16; shape = (Shape.Aggregate (text17 ∷ [])) })) })) ∷ (Ok (record { name = text17; value = (Value.Cluster (record { name = text17; shape = (Shape.Aggregate (text18 ∷ [])) })) })) ∷ (Ok (record { name = text18; value = (Value.Cluster (record { name = text18; shape = (Shape.Aggregate (text19 ∷ [])) })) })) ∷ (Ok (record { name = text19; value = (Value.Cluster (record { name = text19; shape = (Shape.Aggregate (text20 ∷ [])) })) })) ∷ (Ok (record { name = text20; value = (Value.Cluster (record { name = text20; shape = (Shape.Aggregate (text21 ∷ [])) })) })) ∷ (Ok (record { name = text21; value = (Value.Cluster (record { name = text21; shape = (Shape.Aggregate (text22 ∷ [])) })) })) ∷ (Ok (record { name = text22; value = (Value.Cluster (record { name = text22; shape = (Shape.Aggregate (text23 ∷ [])) })) })) ∷ (Ok (record { name = text23; value = (Value.Cluster (record { name = text23; shape = (Shape.Aggregate (text24 ∷ [])) })) })) ∷ (Ok (record { name = text24; value = (Value.Cluster (record { name = text24; shape = (Shape.Aggregate (text25 ∷ [])) })) })) ∷ (Ok (record { name = text25; value = (Value.Cluster (record { name = text25; shape = (Shape.Eds []) })) })) ∷ [])
 
 abbrev entry1 : Entry
-entry1 = on_line 0 5 (driven (DriverEvent.Opened (record { 0 = 0 })) Verdict.Done (Some (key Kind.Listener text0)) ((record { authority = (record { 0 = 0 }); request = (record { kind = Kind.Listener; version = []; nonce = []; names = (text0 ∷ []); node = (Some a_node); error = None }) }) ∷ []) None)
+entry1 = on_line 0 5 (driven (DriverEvent.Opened (record { 0 = 0 })) Verdict.Done (Some (key Kind.Listener text0)) ((record { authority = (record { 0 = 0 }); request = (record { kind = Kind.Listener; version = []; nonce = []; names = (text0 ∷ []); node = (Some a_node); error = None }) }) ∷ []) None ([]))
 
 abbrev entry2 : Entry
-entry2 = on_line 0 6 (driven (DriverEvent.Response (record { 0 = 0 }) (0 ∷ [])) (Verdict.Ack Kind.Listener) (Some (key Kind.Cluster text1)) ((record { authority = (record { 0 = 0 }); request = (record { kind = Kind.Listener; version = text2; nonce = text3; names = (text0 ∷ []); node = None; error = None }) }) ∷ (record { authority = (record { 0 = 0 }); request = (record { kind = Kind.Cluster; version = []; nonce = []; names = (text1 ∷ []); node = None; error = None }) }) ∷ []) None)
+entry2 = on_line 0 6 (driven (DriverEvent.Response (record { 0 = 0 }) (0 ∷ [])) (Verdict.Ack Kind.Listener) (Some (key Kind.Cluster text1)) ((record { authority = (record { 0 = 0 }); request = (record { kind = Kind.Listener; version = text2; nonce = text3; names = (text0 ∷ []); node = None; error = None }) }) ∷ (record { authority = (record { 0 = 0 }); request = (record { kind = Kind.Cluster; version = []; nonce = []; names = (text1 ∷ []); node = None; error = None }) }) ∷ []) None ([]))
 
 abbrev entry3 : Entry
-entry3 = on_line 0 6 (driven (DriverEvent.Bytes (record { 0 = 0 }) BytesHow.Whole) Verdict.Done (Some (key Kind.Cluster text1)) ([]) None)
+entry3 = on_line 0 6 (driven (DriverEvent.Bytes (record { 0 = 0 }) BytesHow.Whole) Verdict.Done (Some (key Kind.Cluster text1)) ([]) None ([]))
 
 abbrev entry4 : Entry
-entry4 = on_line 0 7 (driven (DriverEvent.Response (record { 0 = 0 }) (1 ∷ [])) (Verdict.Ack Kind.Cluster) (Some (key Kind.Cluster text9)) ((record { authority = (record { 0 = 0 }); request = (record { kind = Kind.Cluster; version = text2; nonce = text10; names = (text1 ∷ text9 ∷ []); node = None; error = None }) }) ∷ []) None)
+entry4 = on_line 0 7 (driven (DriverEvent.Response (record { 0 = 0 }) (1 ∷ [])) (Verdict.Ack Kind.Cluster) (Some (key Kind.Cluster text9)) ((record { authority = (record { 0 = 0 }); request = (record { kind = Kind.Cluster; version = text2; nonce = text10; names = (text1 ∷ text9 ∷ []); node = None; error = None }) }) ∷ []) None ([]))
 
 abbrev entry5 : Entry
-entry5 = on_line 0 7 (driven (DriverEvent.Bytes (record { 0 = 0 }) BytesHow.Whole) Verdict.Done (Some (key Kind.Cluster text9)) ([]) None)
+entry5 = on_line 0 7 (driven (DriverEvent.Bytes (record { 0 = 0 }) BytesHow.Whole) Verdict.Done (Some (key Kind.Cluster text9)) ([]) None ([]))
 
 abbrev entry6 : Entry
-entry6 = on_line 0 8 (driven (DriverEvent.Response (record { 0 = 0 }) (2 ∷ [])) (Verdict.Ack Kind.Cluster) (Some (key Kind.Cluster text11)) ((record { authority = (record { 0 = 0 }); request = (record { kind = Kind.Cluster; version = text2; nonce = text26; names = (text1 ∷ text9 ∷ text11 ∷ []); node = None; error = None }) }) ∷ []) None)
+entry6 = on_line 0 8 (driven (DriverEvent.Response (record { 0 = 0 }) (2 ∷ [])) (Verdict.Ack Kind.Cluster) (Some (key Kind.Cluster text11)) ((record { authority = (record { 0 = 0 }); request = (record { kind = Kind.Cluster; version = text2; nonce = text26; names = (text1 ∷ text9 ∷ text11 ∷ []); node = None; error = None }) }) ∷ []) None ([]))
 
 abbrev entry7 : Entry
-entry7 = on_line 0 8 (driven (DriverEvent.Bytes (record { 0 = 0 }) BytesHow.Whole) Verdict.Done (Some (key Kind.Cluster text11)) ([]) None)
+entry7 = on_line 0 8 (driven (DriverEvent.Bytes (record { 0 = 0 }) BytesHow.Whole) Verdict.Done (Some (key Kind.Cluster text11)) ([]) None ([]))
 
 abbrev entry8 : Entry
-entry8 = on_line 0 9 (driven (DriverEvent.Response (record { 0 = 0 }) (3 ∷ [])) (Verdict.Ack Kind.Cluster) (Some (key Kind.Cluster text12)) ((record { authority = (record { 0 = 0 }); request = (record { kind = Kind.Cluster; version = text2; nonce = text27; names = (text1 ∷ text9 ∷ text11 ∷ text12 ∷ []); node = None; error = None }) }) ∷ []) None)
+entry8 = on_line 0 9 (driven (DriverEvent.Response (record { 0 = 0 }) (3 ∷ [])) (Verdict.Ack Kind.Cluster) (Some (key Kind.Cluster text12)) ((record { authority = (record { 0 = 0 }); request = (record { kind = Kind.Cluster; version = text2; nonce = text27; names = (text1 ∷ text9 ∷ text11 ∷ text12 ∷ []); node = None; error = None }) }) ∷ []) None ([]))
 
 abbrev entry9 : Entry
-entry9 = on_line 0 9 (driven (DriverEvent.Bytes (record { 0 = 0 }) BytesHow.Whole) Verdict.Done (Some (key Kind.Cluster text12)) ([]) None)
+entry9 = on_line 0 9 (driven (DriverEvent.Bytes (record { 0 = 0 }) BytesHow.Whole) Verdict.Done (Some (key Kind.Cluster text12)) ([]) None ([]))
 
 abbrev entry10 : Entry
-entry10 = on_line 0 10 (driven (DriverEvent.Response (record { 0 = 0 }) (4 ∷ [])) (Verdict.Ack Kind.Cluster) (Some (key Kind.Cluster text13)) ((record { authority = (record { 0 = 0 }); request = (record { kind = Kind.Cluster; version = text2; nonce = text28; names = (text1 ∷ text9 ∷ text11 ∷ text12 ∷ text13 ∷ []); node = None; error = None }) }) ∷ []) None)
+entry10 = on_line 0 10 (driven (DriverEvent.Response (record { 0 = 0 }) (4 ∷ [])) (Verdict.Ack Kind.Cluster) (Some (key Kind.Cluster text13)) ((record { authority = (record { 0 = 0 }); request = (record { kind = Kind.Cluster; version = text2; nonce = text28; names = (text1 ∷ text9 ∷ text11 ∷ text12 ∷ text13 ∷ []); node = None; error = None }) }) ∷ []) None ([]))
 
 abbrev entry11 : Entry
-entry11 = on_line 0 10 (driven (DriverEvent.Bytes (record { 0 = 0 }) BytesHow.Whole) Verdict.Done (Some (key Kind.Cluster text13)) ([]) None)
+entry11 = on_line 0 10 (driven (DriverEvent.Bytes (record { 0 = 0 }) BytesHow.Whole) Verdict.Done (Some (key Kind.Cluster text13)) ([]) None ([]))
 
 abbrev entry12 : Entry
-entry12 = on_line 0 11 (driven (DriverEvent.Response (record { 0 = 0 }) (5 ∷ [])) (Verdict.Ack Kind.Cluster) (Some (key Kind.Cluster text14)) ((record { authority = (record { 0 = 0 }); request = (record { kind = Kind.Cluster; version = text2; nonce = text29; names = (text1 ∷ text9 ∷ text11 ∷ text12 ∷ text13 ∷ text14 ∷ []); node = None; error = None }) }) ∷ []) None)
+entry12 = on_line 0 11 (driven (DriverEvent.Response (record { 0 = 0 }) (5 ∷ [])) (Verdict.Ack Kind.Cluster) (Some (key Kind.Cluster text14)) ((record { authority = (record { 0 = 0 }); request = (record { kind = Kind.Cluster; version = text2; nonce = text29; names = (text1 ∷ text9 ∷ text11 ∷ text12 ∷ text13 ∷ text14 ∷ []); node = None; error = None }) }) ∷ []) None ([]))
 
 abbrev entry13 : Entry
-entry13 = on_line 0 11 (driven (DriverEvent.Bytes (record { 0 = 0 }) BytesHow.Whole) Verdict.Done (Some (key Kind.Cluster text14)) ([]) None)
+entry13 = on_line 0 11 (driven (DriverEvent.Bytes (record { 0 = 0 }) BytesHow.Whole) Verdict.Done (Some (key Kind.Cluster text14)) ([]) None ([]))
 
 abbrev entry14 : Entry
-entry14 = on_line 0 12 (driven (DriverEvent.Response (record { 0 = 0 }) (6 ∷ [])) (Verdict.Ack Kind.Cluster) (Some (key Kind.Cluster text15)) ((record { authority = (record { 0 = 0 }); request = (record { kind = Kind.Cluster; version = text2; nonce = text30; names = (text1 ∷ text9 ∷ text11 ∷ text12 ∷ text13 ∷ text14 ∷ text15 ∷ []); node = None; error = None }) }) ∷ []) None)
+entry14 = on_line 0 12 (driven (DriverEvent.Response (record { 0 = 0 }) (6 ∷ [])) (Verdict.Ack Kind.Cluster) (Some (key Kind.Cluster text15)) ((record { authority = (record { 0 = 0 }); request = (record { kind = Kind.Cluster; version = text2; nonce = text30; names = (text1 ∷ text9 ∷ text11 ∷ text12 ∷ text13 ∷ text14 ∷ text15 ∷ []); node = None; error = None }) }) ∷ []) None ([]))
 
 abbrev entry15 : Entry
-entry15 = on_line 0 12 (driven (DriverEvent.Bytes (record { 0 = 0 }) BytesHow.Whole) Verdict.Done (Some (key Kind.Cluster text15)) ([]) None)
+entry15 = on_line 0 12 (driven (DriverEvent.Bytes (record { 0 = 0 }) BytesHow.Whole) Verdict.Done (Some (key Kind.Cluster text15)) ([]) None ([]))
 
 abbrev entry16 : Entry
-entry16 = on_line 0 13 (driven (DriverEvent.Response (record { 0 = 0 }) (7 ∷ [])) (Verdict.Ack Kind.Cluster) (Some (key Kind.Cluster text16)) ((record { authority = (record { 0 = 0 }); request = (record { kind = Kind.Cluster; version = text2; nonce = text31; names = (text1 ∷ text9 ∷ text11 ∷ text12 ∷ text13 ∷ text14 ∷ text15 ∷ text16 ∷ []); node = None; error = None }) }) ∷ []) None)
+entry16 = on_line 0 13 (driven (DriverEvent.Response (record { 0 = 0 }) (7 ∷ [])) (Verdict.Ack Kind.Cluster) (Some (key Kind.Cluster text16)) ((record { authority = (record { 0 = 0 }); request = (record { kind = Kind.Cluster; version = text2; nonce = text31; names = (text1 ∷ text9 ∷ text11 ∷ text12 ∷ text13 ∷ text14 ∷ text15 ∷ text16 ∷ []); node = None; error = None }) }) ∷ []) None ([]))
 
 abbrev entry17 : Entry
-entry17 = on_line 0 13 (driven (DriverEvent.Bytes (record { 0 = 0 }) BytesHow.Whole) Verdict.Done (Some (key Kind.Cluster text16)) ([]) None)
+entry17 = on_line 0 13 (driven (DriverEvent.Bytes (record { 0 = 0 }) BytesHow.Whole) Verdict.Done (Some (key Kind.Cluster text16)) ([]) None ([]))
 
 abbrev entry18 : Entry
-entry18 = on_line 0 14 (driven (DriverEvent.Response (record { 0 = 0 }) (8 ∷ [])) (Verdict.Ack Kind.Cluster) (Some (key Kind.Cluster text17)) ((record { authority = (record { 0 = 0 }); request = (record { kind = Kind.Cluster; version = text2; nonce = text32; names = (text1 ∷ text9 ∷ text11 ∷ text12 ∷ text13 ∷ text14 ∷ text15 ∷ text16 ∷ text17 ∷ []); node = None; error = None }) }) ∷ []) None)
+entry18 = on_line 0 14 (driven (DriverEvent.Response (record { 0 = 0 }) (8 ∷ [])) (Verdict.Ack Kind.Cluster) (Some (key Kind.Cluster text17)) ((record { authority = (record { 0 = 0 }); request = (record { kind = Kind.Cluster; version = text2; nonce = text32; names = (text1 ∷ text9 ∷ text11 ∷ text12 ∷ text13 ∷ text14 ∷ text15 ∷ text16 ∷ text17 ∷ []); node = None; error = None }) }) ∷ []) None ([]))
 
 abbrev entry19 : Entry
-entry19 = on_line 0 14 (driven (DriverEvent.Bytes (record { 0 = 0 }) BytesHow.Whole) Verdict.Done (Some (key Kind.Cluster text17)) ([]) None)
+entry19 = on_line 0 14 (driven (DriverEvent.Bytes (record { 0 = 0 }) BytesHow.Whole) Verdict.Done (Some (key Kind.Cluster text17)) ([]) None ([]))
 
 abbrev entry20 : Entry
-entry20 = on_line 0 15 (driven (DriverEvent.Response (record { 0 = 0 }) (9 ∷ [])) (Verdict.Ack Kind.Cluster) (Some (key Kind.Cluster text18)) ((record { authority = (record { 0 = 0 }); request = (record { kind = Kind.Cluster; version = text2; nonce = text33; names = (text1 ∷ text9 ∷ text11 ∷ text12 ∷ text13 ∷ text14 ∷ text15 ∷ text16 ∷ text17 ∷ text18 ∷ []); node = None; error = None }) }) ∷ []) None)
+entry20 = on_line 0 15 (driven (DriverEvent.Response (record { 0 = 0 }) (9 ∷ [])) (Verdict.Ack Kind.Cluster) (Some (key Kind.Cluster text18)) ((record { authority = (record { 0 = 0 }); request = (record { kind = Kind.Cluster; version = text2; nonce = text33; names = (text1 ∷ text9 ∷ text11 ∷ text12 ∷ text13 ∷ text14 ∷ text15 ∷ text16 ∷ text17 ∷ text18 ∷ []); node = None; error = None }) }) ∷ []) None ([]))
 
 abbrev entry21 : Entry
-entry21 = on_line 0 15 (driven (DriverEvent.Bytes (record { 0 = 0 }) BytesHow.Whole) Verdict.Done (Some (key Kind.Cluster text18)) ([]) None)
+entry21 = on_line 0 15 (driven (DriverEvent.Bytes (record { 0 = 0 }) BytesHow.Whole) Verdict.Done (Some (key Kind.Cluster text18)) ([]) None ([]))
 
 abbrev entry22 : Entry
-entry22 = on_line 0 16 (driven (DriverEvent.Response (record { 0 = 0 }) (10 ∷ [])) (Verdict.Ack Kind.Cluster) (Some (key Kind.Cluster text19)) ((record { authority = (record { 0 = 0 }); request = (record { kind = Kind.Cluster; version = text2; nonce = text34; names = (text1 ∷ text9 ∷ text19 ∷ text11 ∷ text12 ∷ text13 ∷ text14 ∷ text15 ∷ text16 ∷ text17 ∷ text18 ∷ []); node = None; error = None }) }) ∷ []) None)
+entry22 = on_line 0 16 (driven (DriverEvent.Response (record { 0 = 0 }) (10 ∷ [])) (Verdict.Ack Kind.Cluster) (Some (key Kind.Cluster text19)) ((record { authority = (record { 0 = 0 }); request = (record { kind = Kind.Cluster; version = text2; nonce = text34; names = (text1 ∷ text9 ∷ text19 ∷ text11 ∷ text12 ∷ text13 ∷ text14 ∷ text15 ∷ text16 ∷ text17 ∷ text18 ∷ []); node = None; error = None }) }) ∷ []) None ([]))
 
 abbrev entry23 : Entry
-entry23 = on_line 0 16 (driven (DriverEvent.Bytes (record { 0 = 0 }) BytesHow.Whole) Verdict.Done (Some (key Kind.Cluster text19)) ([]) None)
+entry23 = on_line 0 16 (driven (DriverEvent.Bytes (record { 0 = 0 }) BytesHow.Whole) Verdict.Done (Some (key Kind.Cluster text19)) ([]) None ([]))
 
 abbrev entry24 : Entry
-entry24 = on_line 0 17 (driven (DriverEvent.Response (record { 0 = 0 }) (11 ∷ [])) (Verdict.Ack Kind.Cluster) (Some (key Kind.Cluster text20)) ((record { authority = (record { 0 = 0 }); request = (record { kind = Kind.Cluster; version = text2; nonce = text35; names = (text1 ∷ text9 ∷ text19 ∷ text20 ∷ text11 ∷ text12 ∷ text13 ∷ text14 ∷ text15 ∷ text16 ∷ text17 ∷ text18 ∷ []); node = None; error = None }) }) ∷ []) None)
+entry24 = on_line 0 17 (driven (DriverEvent.Response (record { 0 = 0 }) (11 ∷ [])) (Verdict.Ack Kind.Cluster) (Some (key Kind.Cluster text20)) ((record { authority = (record { 0 = 0 }); request = (record { kind = Kind.Cluster; version = text2; nonce = text35; names = (text1 ∷ text9 ∷ text19 ∷ text20 ∷ text11 ∷ text12 ∷ text13 ∷ text14 ∷ text15 ∷ text16 ∷ text17 ∷ text18 ∷ []); node = None; error = None }) }) ∷ []) None ([]))
 
 abbrev entry25 : Entry
-entry25 = on_line 0 17 (driven (DriverEvent.Bytes (record { 0 = 0 }) BytesHow.Whole) Verdict.Done (Some (key Kind.Cluster text20)) ([]) None)
+entry25 = on_line 0 17 (driven (DriverEvent.Bytes (record { 0 = 0 }) BytesHow.Whole) Verdict.Done (Some (key Kind.Cluster text20)) ([]) None ([]))
 
 abbrev entry26 : Entry
-entry26 = on_line 0 18 (driven (DriverEvent.Response (record { 0 = 0 }) (12 ∷ [])) (Verdict.Ack Kind.Cluster) (Some (key Kind.Cluster text21)) ((record { authority = (record { 0 = 0 }); request = (record { kind = Kind.Cluster; version = text2; nonce = text36; names = (text1 ∷ text9 ∷ text19 ∷ text20 ∷ text21 ∷ text11 ∷ text12 ∷ text13 ∷ text14 ∷ text15 ∷ text16 ∷ text17 ∷ text18 ∷ []); node = None; error = None }) }) ∷ []) None)
+entry26 = on_line 0 18 (driven (DriverEvent.Response (record { 0 = 0 }) (12 ∷ [])) (Verdict.Ack Kind.Cluster) (Some (key Kind.Cluster text21)) ((record { authority = (record { 0 = 0 }); request = (record { kind = Kind.Cluster; version = text2; nonce = text36; names = (text1 ∷ text9 ∷ text19 ∷ text20 ∷ text21 ∷ text11 ∷ text12 ∷ text13 ∷ text14 ∷ text15 ∷ text16 ∷ text17 ∷ text18 ∷ []); node = None; error = None }) }) ∷ []) None ([]))
 
 abbrev entry27 : Entry
-entry27 = on_line 0 18 (driven (DriverEvent.Bytes (record { 0 = 0 }) BytesHow.Whole) Verdict.Done (Some (key Kind.Cluster text21)) ([]) None)
+entry27 = on_line 0 18 (driven (DriverEvent.Bytes (record { 0 = 0 }) BytesHow.Whole) Verdict.Done (Some (key Kind.Cluster text21)) ([]) None ([]))
 
 abbrev entry28 : Entry
-entry28 = on_line 0 19 (driven (DriverEvent.Response (record { 0 = 0 }) (13 ∷ [])) (Verdict.Ack Kind.Cluster) (Some (key Kind.Cluster text22)) ((record { authority = (record { 0 = 0 }); request = (record { kind = Kind.Cluster; version = text2; nonce = text37; names = (text1 ∷ text9 ∷ text19 ∷ text20 ∷ text21 ∷ text22 ∷ text11 ∷ text12 ∷ text13 ∷ text14 ∷ text15 ∷ text16 ∷ text17 ∷ text18 ∷ []); node = None; error = None }) }) ∷ []) None)
+entry28 = on_line 0 19 (driven (DriverEvent.Response (record { 0 = 0 }) (13 ∷ [])) (Verdict.Ack Kind.Cluster) (Some (key Kind.Cluster text22)) ((record { authority = (record { 0 = 0 }); request = (record { kind = Kind.Cluster; version = text2; nonce = text37; names = (text1 ∷ text9 ∷ text19 ∷ text20 ∷ text21 ∷ text22 ∷ text11 ∷ text12 ∷ text13 ∷ text14 ∷ text15 ∷ text16 ∷ text17 ∷ text18 ∷ []); node = None; error = None }) }) ∷ []) None ([]))
 
 abbrev entry29 : Entry
-entry29 = on_line 0 19 (driven (DriverEvent.Bytes (record { 0 = 0 }) BytesHow.Whole) Verdict.Done (Some (key Kind.Cluster text22)) ([]) None)
+entry29 = on_line 0 19 (driven (DriverEvent.Bytes (record { 0 = 0 }) BytesHow.Whole) Verdict.Done (Some (key Kind.Cluster text22)) ([]) None ([]))
 
 abbrev entry30 : Entry
-entry30 = on_line 0 20 (driven (DriverEvent.Response (record { 0 = 0 }) (14 ∷ [])) (Verdict.Ack Kind.Cluster) (Some (key Kind.Cluster text23)) ((record { authority = (record { 0 = 0 }); request = (record { kind = Kind.Cluster; version = text2; nonce = text38; names = (text1 ∷ text9 ∷ text19 ∷ text20 ∷ text21 ∷ text22 ∷ text23 ∷ text11 ∷ text12 ∷ text13 ∷ text14 ∷ text15 ∷ text16 ∷ text17 ∷ text18 ∷ []); node = None; error = None }) }) ∷ []) None)
+entry30 = on_line 0 20 (driven (DriverEvent.Response (record { 0 = 0 }) (14 ∷ [])) (Verdict.Ack Kind.Cluster) (Some (key Kind.Cluster text23)) ((record { authority = (record { 0 = 0 }); request = (record { kind = Kind.Cluster; version = text2; nonce = text38; names = (text1 ∷ text9 ∷ text19 ∷ text20 ∷ text21 ∷ text22 ∷ text23 ∷ text11 ∷ text12 ∷ text13 ∷ text14 ∷ text15 ∷ text16 ∷ text17 ∷ text18 ∷ []); node = None; error = None }) }) ∷ []) None ([]))
 
 abbrev entry31 : Entry
-entry31 = on_line 0 20 (driven (DriverEvent.Bytes (record { 0 = 0 }) BytesHow.Whole) Verdict.Done (Some (key Kind.Cluster text23)) ([]) None)
+entry31 = on_line 0 20 (driven (DriverEvent.Bytes (record { 0 = 0 }) BytesHow.Whole) Verdict.Done (Some (key Kind.Cluster text23)) ([]) None ([]))
 
 abbrev entry32 : Entry
-entry32 = on_line 0 21 (driven (DriverEvent.Response (record { 0 = 0 }) (15 ∷ [])) (Verdict.Ack Kind.Cluster) (Some (key Kind.Cluster text24)) ((record { authority = (record { 0 = 0 }); request = (record { kind = Kind.Cluster; version = text2; nonce = text39; names = (text1 ∷ text9 ∷ text19 ∷ text20 ∷ text21 ∷ text22 ∷ text23 ∷ text24 ∷ text11 ∷ text12 ∷ text13 ∷ text14 ∷ text15 ∷ text16 ∷ text17 ∷ text18 ∷ []); node = None; error = None }) }) ∷ []) None)
+entry32 = on_line 0 21 (driven (DriverEvent.Response (record { 0 = 0 }) (15 ∷ [])) (Verdict.Ack Kind.Cluster) (Some (key Kind.Cluster text24)) ((record { authority = (record { 0 = 0 }); request = (record { kind = Kind.Cluster; version = text2; nonce = text39; names = (text1 ∷ text9 ∷ text19 ∷ text20 ∷ text21 ∷ text22 ∷ text23 ∷ text24 ∷ text11 ∷ text12 ∷ text13 ∷ text14 ∷ text15 ∷ text16 ∷ text17 ∷ text18 ∷ []); node = None; error = None }) }) ∷ []) None ([]))
 
 abbrev entry33 : Entry
-entry33 = on_line 0 21 (driven (DriverEvent.Bytes (record { 0 = 0 }) BytesHow.Whole) Verdict.Done (Some (key Kind.Cluster text24)) ([]) None)
+entry33 = on_line 0 21 (driven (DriverEvent.Bytes (record { 0 = 0 }) BytesHow.Whole) Verdict.Done (Some (key Kind.Cluster text24)) ([]) None ([]))
 
 abbrev entry34 : Entry
-entry34 = on_line 0 22 (driven (DriverEvent.Response (record { 0 = 0 }) (16 ∷ [])) (Verdict.Ack Kind.Cluster) None ((record { authority = (record { 0 = 0 }); request = (record { kind = Kind.Cluster; version = text2; nonce = text40; names = (text1 ∷ text9 ∷ text19 ∷ text20 ∷ text21 ∷ text22 ∷ text23 ∷ text24 ∷ text11 ∷ text12 ∷ text13 ∷ text14 ∷ text15 ∷ text16 ∷ text17 ∷ text18 ∷ []); node = None; error = None }) }) ∷ []) (Some 1))
+entry34 = on_line 0 22 (driven (DriverEvent.Response (record { 0 = 0 }) (16 ∷ [])) (Verdict.Ack Kind.Cluster) None ((record { authority = (record { 0 = 0 }); request = (record { kind = Kind.Cluster; version = text2; nonce = text40; names = (text1 ∷ text9 ∷ text19 ∷ text20 ∷ text21 ∷ text22 ∷ text23 ∷ text24 ∷ text11 ∷ text12 ∷ text13 ∷ text14 ∷ text15 ∷ text16 ∷ text17 ∷ text18 ∷ []); node = None; error = None }) }) ∷ []) (Some 1) ([]))
 
 abbrev entry35 : Entry
-entry35 = on_line 0 22 (driven (DriverEvent.Bytes (record { 0 = 0 }) BytesHow.Whole) Verdict.Done None ([]) None)
+entry35 = on_line 0 22 (driven (DriverEvent.Bytes (record { 0 = 0 }) BytesHow.Whole) Verdict.Done None ([]) None ([]))
 
 abbrev entry36 : Entry
-entry36 = on_line 0 0 (driven DriverEvent.Sweep Verdict.Done None ([]) None)
+entry36 = on_line 0 0 (driven DriverEvent.Sweep Verdict.Done None ([]) None ([]))
 
 abbrev snapshot1 : Snapshot
 snapshot1 = (record { number = 1; config = (record { front = (Ok (record { listener = text0; routes = routes8; host = 0 })); clusters = ((record { name = text1; state = (Err Reason.Depth) }) ∷ []) }); trees = ((Err Reason.Depth) ∷ []) })

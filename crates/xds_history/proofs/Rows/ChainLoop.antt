@@ -1,10 +1,7 @@
 -- Chain loop.
-use Rattle.std.specs.Prelude.{◌≡◌, refl, ℕ, List, [], ◌∷◌, true, false, Option, Some, None, Ok, Err, codes}
+use Rattle.std.specs.Prelude.{◌≡◌, refl, List, [], ◌∷◌, true, Some, None, Ok, Err, codes}
 use Rattle.xc_base.specs.declared.names.Kind.{Kind}
 use Rattle.xc_base.specs.declared.names.Key.{Key}
-use Rattle.xc_base.specs.declared.names.Home.{Home}
-use Rattle.xc_base.specs.declared.names.NameFault.{NameFault}
-use Rattle.xc_base.specs.declared.names.State.{State}
 use Rattle.xc_base.specs.declared.reason.Reason.{Reason}
 use Rattle.xds_config.specs.declared.value.Value.{Value}
 use Rattle.xds_config.specs.declared.listener_values.RoutesFrom.{RoutesFrom}
@@ -12,22 +9,16 @@ use Rattle.xds_config.specs.declared.route_values.RouteValue.{RouteValue}
 use Rattle.xds_config.specs.declared.route_values.PathTest.{PathTest}
 use Rattle.xds_config.specs.declared.route_values.Action.{Action}
 use Rattle.xds_config.specs.declared.cluster_values.Shape.{Shape}
-use Rattle.xds_config.specs.declared.endpoint_values.EndpointValue.{EndpointValue}
-use Rattle.resource_check.specs.declared.fault.Stop.{Stop}
-use Rattle.route_match.specs.declared.answer.RouteAnswer.{RouteAnswer}
 use Rattle.aggregate_expand.specs.Leaves.{goes_on, ends, leaves_within}
-use Rattle.weighted_lb.specs.declared.picker.PickBody.{PickBody}
 use Rattle.cluster_tree.specs.declared.snapshot.Snapshot.{Snapshot}
 use Rattle.ads_stream.specs.declared.verdict.Verdict.{Verdict}
 use Rattle.call_journal.specs.declared.event.BytesHow.{BytesHow}
 use Rattle.call_journal.specs.declared.event.DriverEvent.{DriverEvent}
-use Rattle.call_journal.specs.declared.event.CallerEvent.{CallerEvent}
-use Rattle.call_journal.specs.declared.reply.CallerReply.{CallerReply}
 use Rattle.call_journal.specs.declared.entry.Entry.{Entry}
 use Rattle.xds_history.specs.Words.{Name}
 use Rattle.xds_history.specs.Setting.{Setting}
 use Rattle.xds_history.specs.Right.{shown}
-use Rattle.xds_history.proofs.Rows.{a_node, response, setting_with, key_from, driven, called, on_line, replayed, as_made, snapshots, quiet}
+use Rattle.xds_history.proofs.Rows.{a_node, response, setting_with, key_from, driven, on_line, replayed, as_made, snapshots, quiet}
 
 abbrev text0 : Name
 text0 = codes "svc"
@@ -54,7 +45,7 @@ abbrev text7 : Name
 text7 = codes "r"
 
 abbrev routes8 : RouteValue
-routes8 = (record { name = text7; hosts = ((record { name = text4; domains = (text5 ∷ []); routes = ((record { place = 0; path = (PathTest.Prefix text6 true); headers = []; fraction = None; action = (Action.To ((record { cluster = text1; weight = 1 }) ∷ [])) }) ∷ []) }) ∷ []) })
+routes8 = (record { name = text7; hosts = ((record { name = text4; domains = (text5 ∷ []); routes = ((record { place = 0; path = (PathTest.Prefix text6 true); headers = ([]); fraction = None; action = (Action.To ((record { cluster = text1; weight = 1 }) ∷ [])) }) ∷ []) }) ∷ []) })
 
 abbrev text9 : Name
 text9 = codes "n2"
@@ -68,22 +59,22 @@ set = setting_with key 1 text0 text0
     ((Ok (record { name = text0; value = (Value.Listener (record { name = text0; routes = (RoutesFrom.Inline routes8) })) })) ∷ (Ok (record { name = text1; value = (Value.Cluster (record { name = text1; shape = (Shape.Aggregate (text1 ∷ [])) })) })) ∷ [])
 
 abbrev entry1 : Entry
-entry1 = on_line 0 5 (driven (DriverEvent.Opened (record { 0 = 0 })) Verdict.Done (Some (key Kind.Listener text0)) ((record { authority = (record { 0 = 0 }); request = (record { kind = Kind.Listener; version = []; nonce = []; names = (text0 ∷ []); node = (Some a_node); error = None }) }) ∷ []) None)
+entry1 = on_line 0 5 (driven (DriverEvent.Opened (record { 0 = 0 })) Verdict.Done (Some (key Kind.Listener text0)) ((record { authority = (record { 0 = 0 }); request = (record { kind = Kind.Listener; version = []; nonce = []; names = (text0 ∷ []); node = (Some a_node); error = None }) }) ∷ []) None ([]))
 
 abbrev entry2 : Entry
-entry2 = on_line 0 6 (driven (DriverEvent.Response (record { 0 = 0 }) (0 ∷ [])) (Verdict.Ack Kind.Listener) (Some (key Kind.Cluster text1)) ((record { authority = (record { 0 = 0 }); request = (record { kind = Kind.Listener; version = text2; nonce = text3; names = (text0 ∷ []); node = None; error = None }) }) ∷ (record { authority = (record { 0 = 0 }); request = (record { kind = Kind.Cluster; version = []; nonce = []; names = (text1 ∷ []); node = None; error = None }) }) ∷ []) None)
+entry2 = on_line 0 6 (driven (DriverEvent.Response (record { 0 = 0 }) (0 ∷ [])) (Verdict.Ack Kind.Listener) (Some (key Kind.Cluster text1)) ((record { authority = (record { 0 = 0 }); request = (record { kind = Kind.Listener; version = text2; nonce = text3; names = (text0 ∷ []); node = None; error = None }) }) ∷ (record { authority = (record { 0 = 0 }); request = (record { kind = Kind.Cluster; version = []; nonce = []; names = (text1 ∷ []); node = None; error = None }) }) ∷ []) None ([]))
 
 abbrev entry3 : Entry
-entry3 = on_line 0 6 (driven (DriverEvent.Bytes (record { 0 = 0 }) BytesHow.Whole) Verdict.Done (Some (key Kind.Cluster text1)) ([]) None)
+entry3 = on_line 0 6 (driven (DriverEvent.Bytes (record { 0 = 0 }) BytesHow.Whole) Verdict.Done (Some (key Kind.Cluster text1)) ([]) None ([]))
 
 abbrev entry4 : Entry
-entry4 = on_line 0 7 (driven (DriverEvent.Response (record { 0 = 0 }) (1 ∷ [])) (Verdict.Ack Kind.Cluster) None ((record { authority = (record { 0 = 0 }); request = (record { kind = Kind.Cluster; version = text2; nonce = text9; names = (text1 ∷ []); node = None; error = None }) }) ∷ []) (Some 1))
+entry4 = on_line 0 7 (driven (DriverEvent.Response (record { 0 = 0 }) (1 ∷ [])) (Verdict.Ack Kind.Cluster) None ((record { authority = (record { 0 = 0 }); request = (record { kind = Kind.Cluster; version = text2; nonce = text9; names = (text1 ∷ []); node = None; error = None }) }) ∷ []) (Some 1) ([]))
 
 abbrev entry5 : Entry
-entry5 = on_line 0 7 (driven (DriverEvent.Bytes (record { 0 = 0 }) BytesHow.Whole) Verdict.Done None ([]) None)
+entry5 = on_line 0 7 (driven (DriverEvent.Bytes (record { 0 = 0 }) BytesHow.Whole) Verdict.Done None ([]) None ([]))
 
 abbrev entry6 : Entry
-entry6 = on_line 0 0 (driven DriverEvent.Sweep Verdict.Done None ([]) None)
+entry6 = on_line 0 0 (driven DriverEvent.Sweep Verdict.Done None ([]) None ([]))
 
 abbrev snapshot1 : Snapshot
 snapshot1 = (record { number = 1; config = (record { front = (Ok (record { listener = text0; routes = routes8; host = 0 })); clusters = ((record { name = text1; state = (Err Reason.Depth) }) ∷ []) }); trees = ((Err Reason.Depth) ∷ []) })

@@ -1,33 +1,16 @@
 -- No snapshot.
-use Rattle.std.specs.Prelude.{◌≡◌, refl, ℕ, List, [], ◌∷◌, true, false, Option, Some, None, Ok, Err, codes}
+use Rattle.std.specs.Prelude.{◌≡◌, refl, List, [], ◌∷◌, Some, None, codes}
 use Rattle.xc_base.specs.declared.names.Kind.{Kind}
 use Rattle.xc_base.specs.declared.names.Key.{Key}
-use Rattle.xc_base.specs.declared.names.Home.{Home}
-use Rattle.xc_base.specs.declared.names.NameFault.{NameFault}
-use Rattle.xc_base.specs.declared.names.State.{State}
-use Rattle.xc_base.specs.declared.reason.Reason.{Reason}
-use Rattle.xds_config.specs.declared.value.Value.{Value}
-use Rattle.xds_config.specs.declared.listener_values.RoutesFrom.{RoutesFrom}
-use Rattle.xds_config.specs.declared.route_values.RouteValue.{RouteValue}
-use Rattle.xds_config.specs.declared.route_values.PathTest.{PathTest}
-use Rattle.xds_config.specs.declared.route_values.Action.{Action}
-use Rattle.xds_config.specs.declared.cluster_values.Shape.{Shape}
-use Rattle.xds_config.specs.declared.endpoint_values.EndpointValue.{EndpointValue}
-use Rattle.resource_check.specs.declared.fault.Stop.{Stop}
-use Rattle.route_match.specs.declared.answer.RouteAnswer.{RouteAnswer}
 use Rattle.aggregate_expand.specs.Leaves.{goes_on, ends, leaves_within}
-use Rattle.weighted_lb.specs.declared.picker.PickBody.{PickBody}
-use Rattle.cluster_tree.specs.declared.snapshot.Snapshot.{Snapshot}
 use Rattle.ads_stream.specs.declared.verdict.Verdict.{Verdict}
-use Rattle.call_journal.specs.declared.event.BytesHow.{BytesHow}
 use Rattle.call_journal.specs.declared.event.DriverEvent.{DriverEvent}
 use Rattle.call_journal.specs.declared.event.CallerEvent.{CallerEvent}
 use Rattle.call_journal.specs.declared.reply.CallerReply.{CallerReply}
 use Rattle.call_journal.specs.declared.entry.Entry.{Entry}
 use Rattle.xds_history.specs.Words.{Name}
 use Rattle.xds_history.specs.Setting.{Setting}
-use Rattle.xds_history.specs.Right.{shown}
-use Rattle.xds_history.proofs.Rows.{a_node, response, setting_with, key_from, driven, called, on_line, replayed, as_made, snapshots, quiet}
+use Rattle.xds_history.proofs.Rows.{setting_with, key_from, driven, called, on_line, replayed, as_made, snapshots, quiet}
 
 abbrev text0 : Name
 text0 = codes "/p.S/M"
@@ -44,7 +27,7 @@ set = setting_with key 1 text1 text1
     ([])
 
 abbrev entry1 : Entry
-entry1 = on_line 1 5 (called (CallerEvent.Pin (record { id = (record { 0 = 0 }); path = text0; headers = []; word = 0 })) CallerReply.NoSnapshot)
+entry1 = on_line 1 5 (called (CallerEvent.Pin (record { id = (record { 0 = 0 }); path = text0; headers = ([]); word = 0 })) CallerReply.NoSnapshot)
 
 abbrev entry2 : Entry
 entry2 = on_line 1 6 (called (CallerEvent.Commit (record { 0 = 0 })) CallerReply.NotHeld)
@@ -53,7 +36,7 @@ abbrev entry3 : Entry
 entry3 = on_line 1 7 (called (CallerEvent.Pick (record { 0 = 0 }) 0) CallerReply.NotHeld)
 
 abbrev entry4 : Entry
-entry4 = on_line 0 0 (driven DriverEvent.Sweep Verdict.Done (Some (key Kind.Listener text1)) ([]) None)
+entry4 = on_line 0 0 (driven DriverEvent.Sweep Verdict.Done (Some (key Kind.Listener text1)) ([]) None ([]))
 
 -- the newest first
 abbrev history : List Entry

@@ -1,11 +1,8 @@
 -- Pick queues.
-use Rattle.std.specs.Prelude.{◌≡◌, refl, ℕ, List, [], ◌∷◌, true, false, Option, Some, None, Ok, Err, codes}
+use Rattle.std.specs.Prelude.{◌≡◌, refl, List, [], ◌∷◌, true, false, Some, None, Ok, codes}
 use Rattle.xc_base.specs.declared.names.Kind.{Kind}
 use Rattle.xc_base.specs.declared.names.Key.{Key}
-use Rattle.xc_base.specs.declared.names.Home.{Home}
-use Rattle.xc_base.specs.declared.names.NameFault.{NameFault}
 use Rattle.xc_base.specs.declared.names.State.{State}
-use Rattle.xc_base.specs.declared.reason.Reason.{Reason}
 use Rattle.xds_config.specs.declared.value.Value.{Value}
 use Rattle.xds_config.specs.declared.listener_values.RoutesFrom.{RoutesFrom}
 use Rattle.xds_config.specs.declared.route_values.RouteValue.{RouteValue}
@@ -13,7 +10,6 @@ use Rattle.xds_config.specs.declared.route_values.PathTest.{PathTest}
 use Rattle.xds_config.specs.declared.route_values.Action.{Action}
 use Rattle.xds_config.specs.declared.cluster_values.Shape.{Shape}
 use Rattle.xds_config.specs.declared.endpoint_values.EndpointValue.{EndpointValue}
-use Rattle.resource_check.specs.declared.fault.Stop.{Stop}
 use Rattle.route_match.specs.declared.answer.RouteAnswer.{RouteAnswer}
 use Rattle.aggregate_expand.specs.Leaves.{goes_on, ends, leaves_within}
 use Rattle.weighted_lb.specs.declared.picker.PickBody.{PickBody}
@@ -54,7 +50,7 @@ abbrev text7 : Name
 text7 = codes "r"
 
 abbrev routes8 : RouteValue
-routes8 = (record { name = text7; hosts = ((record { name = text4; domains = (text5 ∷ []); routes = ((record { place = 0; path = (PathTest.Prefix text6 true); headers = []; fraction = None; action = (Action.To ((record { cluster = text1; weight = 1 }) ∷ [])) }) ∷ []) }) ∷ []) })
+routes8 = (record { name = text7; hosts = ((record { name = text4; domains = (text5 ∷ []); routes = ((record { place = 0; path = (PathTest.Prefix text6 true); headers = ([]); fraction = None; action = (Action.To ((record { cluster = text1; weight = 1 }) ∷ [])) }) ∷ []) }) ∷ []) })
 
 abbrev text9 : Name
 text9 = codes "n2"
@@ -83,31 +79,31 @@ set = setting_with key 1 text0 text0
     ((Ok (record { name = text0; value = (Value.Listener (record { name = text0; routes = (RoutesFrom.Inline routes8) })) })) ∷ (Ok (record { name = text1; value = (Value.Cluster (record { name = text1; shape = (Shape.Eds []) })) })) ∷ (Ok (record { name = text1; value = (Value.Endpoint endpoints13) })) ∷ [])
 
 abbrev entry1 : Entry
-entry1 = on_line 0 5 (driven (DriverEvent.Opened (record { 0 = 0 })) Verdict.Done (Some (key Kind.Listener text0)) ((record { authority = (record { 0 = 0 }); request = (record { kind = Kind.Listener; version = []; nonce = []; names = (text0 ∷ []); node = (Some a_node); error = None }) }) ∷ []) None)
+entry1 = on_line 0 5 (driven (DriverEvent.Opened (record { 0 = 0 })) Verdict.Done (Some (key Kind.Listener text0)) ((record { authority = (record { 0 = 0 }); request = (record { kind = Kind.Listener; version = []; nonce = []; names = (text0 ∷ []); node = (Some a_node); error = None }) }) ∷ []) None ([]))
 
 abbrev entry2 : Entry
-entry2 = on_line 0 6 (driven (DriverEvent.Response (record { 0 = 0 }) (0 ∷ [])) (Verdict.Ack Kind.Listener) (Some (key Kind.Cluster text1)) ((record { authority = (record { 0 = 0 }); request = (record { kind = Kind.Listener; version = text2; nonce = text3; names = (text0 ∷ []); node = None; error = None }) }) ∷ (record { authority = (record { 0 = 0 }); request = (record { kind = Kind.Cluster; version = []; nonce = []; names = (text1 ∷ []); node = None; error = None }) }) ∷ []) None)
+entry2 = on_line 0 6 (driven (DriverEvent.Response (record { 0 = 0 }) (0 ∷ [])) (Verdict.Ack Kind.Listener) (Some (key Kind.Cluster text1)) ((record { authority = (record { 0 = 0 }); request = (record { kind = Kind.Listener; version = text2; nonce = text3; names = (text0 ∷ []); node = None; error = None }) }) ∷ (record { authority = (record { 0 = 0 }); request = (record { kind = Kind.Cluster; version = []; nonce = []; names = (text1 ∷ []); node = None; error = None }) }) ∷ []) None ([]))
 
 abbrev entry3 : Entry
-entry3 = on_line 0 6 (driven (DriverEvent.Bytes (record { 0 = 0 }) BytesHow.Whole) Verdict.Done (Some (key Kind.Cluster text1)) ([]) None)
+entry3 = on_line 0 6 (driven (DriverEvent.Bytes (record { 0 = 0 }) BytesHow.Whole) Verdict.Done (Some (key Kind.Cluster text1)) ([]) None ([]))
 
 abbrev entry4 : Entry
-entry4 = on_line 0 7 (driven (DriverEvent.Response (record { 0 = 0 }) (1 ∷ [])) (Verdict.Ack Kind.Cluster) (Some (key Kind.Endpoint text1)) ((record { authority = (record { 0 = 0 }); request = (record { kind = Kind.Cluster; version = text2; nonce = text9; names = (text1 ∷ []); node = None; error = None }) }) ∷ (record { authority = (record { 0 = 0 }); request = (record { kind = Kind.Endpoint; version = []; nonce = []; names = (text1 ∷ []); node = None; error = None }) }) ∷ []) None)
+entry4 = on_line 0 7 (driven (DriverEvent.Response (record { 0 = 0 }) (1 ∷ [])) (Verdict.Ack Kind.Cluster) (Some (key Kind.Endpoint text1)) ((record { authority = (record { 0 = 0 }); request = (record { kind = Kind.Cluster; version = text2; nonce = text9; names = (text1 ∷ []); node = None; error = None }) }) ∷ (record { authority = (record { 0 = 0 }); request = (record { kind = Kind.Endpoint; version = []; nonce = []; names = (text1 ∷ []); node = None; error = None }) }) ∷ []) None ([]))
 
 abbrev entry5 : Entry
-entry5 = on_line 0 7 (driven (DriverEvent.Bytes (record { 0 = 0 }) BytesHow.Whole) Verdict.Done (Some (key Kind.Endpoint text1)) ([]) None)
+entry5 = on_line 0 7 (driven (DriverEvent.Bytes (record { 0 = 0 }) BytesHow.Whole) Verdict.Done (Some (key Kind.Endpoint text1)) ([]) None ([]))
 
 abbrev entry6 : Entry
-entry6 = on_line 0 8 (driven (DriverEvent.Response (record { 0 = 0 }) (2 ∷ [])) (Verdict.Ack Kind.Endpoint) None ((record { authority = (record { 0 = 0 }); request = (record { kind = Kind.Endpoint; version = text2; nonce = text10; names = (text1 ∷ []); node = None; error = None }) }) ∷ []) (Some 1))
+entry6 = on_line 0 8 (driven (DriverEvent.Response (record { 0 = 0 }) (2 ∷ [])) (Verdict.Ack Kind.Endpoint) None ((record { authority = (record { 0 = 0 }); request = (record { kind = Kind.Endpoint; version = text2; nonce = text10; names = (text1 ∷ []); node = None; error = None }) }) ∷ []) (Some 1) ([]))
 
 abbrev entry7 : Entry
-entry7 = on_line 0 8 (driven (DriverEvent.Bytes (record { 0 = 0 }) BytesHow.Whole) Verdict.Done None ([]) None)
+entry7 = on_line 0 8 (driven (DriverEvent.Bytes (record { 0 = 0 }) BytesHow.Whole) Verdict.Done None ([]) None ([]))
 
 abbrev entry8 : Entry
-entry8 = on_line 1 9 (called (CallerEvent.Pin (record { id = (record { 0 = 0 }); path = text14; headers = []; word = 0 })) (CallerReply.Pinned 1))
+entry8 = on_line 1 9 (called (CallerEvent.Pin (record { id = (record { 0 = 0 }); path = text14; headers = ([]); word = 0 })) (CallerReply.Pinned 1))
 
 abbrev entry9 : Entry
-entry9 = on_line 1 9 (called (CallerEvent.Hold (record { id = (record { 0 = 0 }); path = text14; headers = []; word = 0 })) (CallerReply.Routed 1 (RouteAnswer.To 0 0)))
+entry9 = on_line 1 9 (called (CallerEvent.Hold (record { id = (record { 0 = 0 }); path = text14; headers = ([]); word = 0 })) (CallerReply.Routed 1 (RouteAnswer.To 0 0)))
 
 abbrev entry10 : Entry
 entry10 = on_line 1 10 (called (CallerEvent.Pick (record { 0 = 0 }) 0) (CallerReply.Queue 1))
@@ -116,7 +112,7 @@ abbrev entry11 : Entry
 entry11 = on_line 1 11 (called (CallerEvent.Commit (record { 0 = 0 })) CallerReply.Released)
 
 abbrev entry12 : Entry
-entry12 = on_line 0 0 (driven DriverEvent.Sweep Verdict.Done None ([]) None)
+entry12 = on_line 0 0 (driven DriverEvent.Sweep Verdict.Done None ([]) None ([]))
 
 abbrev snapshot1 : Snapshot
 snapshot1 = (record { number = 1; config = (record { front = (Ok (record { listener = text0; routes = routes8; host = 0 })); clusters = ((record { name = text1; state = (Ok (record { aggregate = false; leaves = ((record { name = text1; state = (Ok endpoints13) }) ∷ []) })) }) ∷ []) }); trees = ((Ok (record { children = ((record { leaf = text1; priority = 0; view = (record { there = true; state = State.Connecting; pending = true; unused = false }) }) ∷ []); chosen = 0; waiting = None; picker = (record { drops = ([]); body = PickBody.Queue }) })) ∷ []) })

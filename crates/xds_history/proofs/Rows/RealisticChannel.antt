@@ -1,11 +1,9 @@
 -- Realistic channel.
-use Rattle.std.specs.Prelude.{◌≡◌, refl, ℕ, List, [], ◌∷◌, true, false, Option, Some, None, Ok, Err, codes}
+use Rattle.std.specs.Prelude.{◌≡◌, refl, List, [], ◌∷◌, true, false, Some, None, Ok, codes}
 use Rattle.xc_base.specs.declared.names.Kind.{Kind}
 use Rattle.xc_base.specs.declared.names.Key.{Key}
 use Rattle.xc_base.specs.declared.names.Home.{Home}
-use Rattle.xc_base.specs.declared.names.NameFault.{NameFault}
 use Rattle.xc_base.specs.declared.names.State.{State}
-use Rattle.xc_base.specs.declared.reason.Reason.{Reason}
 use Rattle.xds_config.specs.declared.value.Value.{Value}
 use Rattle.xds_config.specs.declared.listener_values.RoutesFrom.{RoutesFrom}
 use Rattle.xds_config.specs.declared.route_values.RouteValue.{RouteValue}
@@ -13,7 +11,6 @@ use Rattle.xds_config.specs.declared.route_values.PathTest.{PathTest}
 use Rattle.xds_config.specs.declared.route_values.Action.{Action}
 use Rattle.xds_config.specs.declared.cluster_values.Shape.{Shape}
 use Rattle.xds_config.specs.declared.endpoint_values.EndpointValue.{EndpointValue}
-use Rattle.resource_check.specs.declared.fault.Stop.{Stop}
 use Rattle.route_match.specs.declared.answer.RouteAnswer.{RouteAnswer}
 use Rattle.aggregate_expand.specs.Leaves.{goes_on, ends, leaves_within}
 use Rattle.weighted_lb.specs.declared.picker.PickBody.{PickBody}
@@ -96,7 +93,7 @@ abbrev text21 : Name
 text21 = codes "*"
 
 abbrev routes22 : RouteValue
-routes22 = (record { name = text1; hosts = ((record { name = text7; domains = (text8 ∷ []); routes = ((record { place = 0; path = (PathTest.Whole text9 true); headers = []; fraction = None; action = (Action.To ((record { cluster = text4; weight = 1 }) ∷ [])) }) ∷ (record { place = 1; path = (PathTest.Whole text10 true); headers = []; fraction = None; action = (Action.To ((record { cluster = text4; weight = 1 }) ∷ [])) }) ∷ (record { place = 2; path = (PathTest.Whole text11 true); headers = []; fraction = None; action = (Action.To ((record { cluster = text4; weight = 1 }) ∷ [])) }) ∷ (record { place = 3; path = (PathTest.Whole text12 true); headers = []; fraction = None; action = (Action.To ((record { cluster = text4; weight = 1 }) ∷ [])) }) ∷ (record { place = 4; path = (PathTest.Whole text13 true); headers = []; fraction = None; action = (Action.To ((record { cluster = text4; weight = 1 }) ∷ [])) }) ∷ (record { place = 5; path = (PathTest.Whole text14 true); headers = []; fraction = None; action = (Action.To ((record { cluster = text4; weight = 1 }) ∷ [])) }) ∷ (record { place = 6; path = (PathTest.Whole text15 true); headers = []; fraction = None; action = (Action.To ((record { cluster = text4; weight = 1 }) ∷ [])) }) ∷ (record { place = 7; path = (PathTest.Whole text16 true); headers = []; fraction = None; action = (Action.To ((record { cluster = text4; weight = 1 }) ∷ [])) }) ∷ (record { place = 8; path = (PathTest.Whole text17 true); headers = []; fraction = None; action = (Action.To ((record { cluster = text4; weight = 1 }) ∷ [])) }) ∷ (record { place = 9; path = (PathTest.Prefix [] true); headers = []; fraction = None; action = (Action.To ((record { cluster = text6; weight = 1 }) ∷ [])) }) ∷ []) }) ∷ (record { name = text18; domains = (text19 ∷ []); routes = ((record { place = 0; path = (PathTest.Prefix [] true); headers = []; fraction = None; action = (Action.To ((record { cluster = text6; weight = 1 }) ∷ [])) }) ∷ []) }) ∷ (record { name = text20; domains = (text21 ∷ []); routes = ((record { place = 0; path = (PathTest.Prefix [] true); headers = []; fraction = None; action = (Action.To ((record { cluster = text6; weight = 1 }) ∷ [])) }) ∷ []) }) ∷ []) })
+routes22 = (record { name = text1; hosts = ((record { name = text7; domains = (text8 ∷ []); routes = ((record { place = 0; path = (PathTest.Whole text9 true); headers = ([]); fraction = None; action = (Action.To ((record { cluster = text4; weight = 1 }) ∷ [])) }) ∷ (record { place = 1; path = (PathTest.Whole text10 true); headers = ([]); fraction = None; action = (Action.To ((record { cluster = text4; weight = 1 }) ∷ [])) }) ∷ (record { place = 2; path = (PathTest.Whole text11 true); headers = ([]); fraction = None; action = (Action.To ((record { cluster = text4; weight = 1 }) ∷ [])) }) ∷ (record { place = 3; path = (PathTest.Whole text12 true); headers = ([]); fraction = None; action = (Action.To ((record { cluster = text4; weight = 1 }) ∷ [])) }) ∷ (record { place = 4; path = (PathTest.Whole text13 true); headers = ([]); fraction = None; action = (Action.To ((record { cluster = text4; weight = 1 }) ∷ [])) }) ∷ (record { place = 5; path = (PathTest.Whole text14 true); headers = ([]); fraction = None; action = (Action.To ((record { cluster = text4; weight = 1 }) ∷ [])) }) ∷ (record { place = 6; path = (PathTest.Whole text15 true); headers = ([]); fraction = None; action = (Action.To ((record { cluster = text4; weight = 1 }) ∷ [])) }) ∷ (record { place = 7; path = (PathTest.Whole text16 true); headers = ([]); fraction = None; action = (Action.To ((record { cluster = text4; weight = 1 }) ∷ [])) }) ∷ (record { place = 8; path = (PathTest.Whole text17 true); headers = ([]); fraction = None; action = (Action.To ((record { cluster = text4; weight = 1 }) ∷ [])) }) ∷ (record { place = 9; path = (PathTest.Prefix [] true); headers = ([]); fraction = None; action = (Action.To ((record { cluster = text6; weight = 1 }) ∷ [])) }) ∷ []) }) ∷ (record { name = text18; domains = (text19 ∷ []); routes = ((record { place = 0; path = (PathTest.Prefix [] true); headers = ([]); fraction = None; action = (Action.To ((record { cluster = text6; weight = 1 }) ∷ [])) }) ∷ []) }) ∷ (record { name = text20; domains = (text21 ∷ []); routes = ((record { place = 0; path = (PathTest.Prefix [] true); headers = ([]); fraction = None; action = (Action.To ((record { cluster = text6; weight = 1 }) ∷ [])) }) ∷ []) }) ∷ []) })
 
 abbrev text23 : Name
 text23 = codes "xdstp://a.example/envoy.config.endpoint.v3.ClusterLoadAssignment/cart"
@@ -162,7 +159,7 @@ abbrev endpoints43 : EndpointValue
 endpoints43 = (record { name = text25; localities = ((record { id = (record { region = []; zone = text27; sub_zone = [] }); priority = 0; weight = 1; addresses = (text37 ∷ []) }) ∷ (record { id = (record { region = []; zone = text29; sub_zone = [] }); priority = 0; weight = 2; addresses = (text38 ∷ []) }) ∷ (record { id = (record { region = []; zone = text31; sub_zone = [] }); priority = 0; weight = 1; addresses = (text39 ∷ []) }) ∷ (record { id = (record { region = []; zone = text27; sub_zone = [] }); priority = 1; weight = 1; addresses = (text40 ∷ []) }) ∷ (record { id = (record { region = []; zone = text29; sub_zone = [] }); priority = 1; weight = 2; addresses = (text41 ∷ []) }) ∷ (record { id = (record { region = []; zone = text31; sub_zone = [] }); priority = 1; weight = 1; addresses = (text42 ∷ []) }) ∷ []); drops = ([]) })
 
 abbrev key : Kind → Name → Key
-key = key_from ((record { kind = Kind.Listener; name = text0; home = (Home.At (record { 0 = 1 })) }) ∷ (record { kind = Kind.Route; name = text1; home = (Home.At (record { 0 = 1 })) }) ∷ (record { kind = Kind.Cluster; name = text6; home = (Home.At (record { 0 = 1 })) }) ∷ (record { kind = Kind.Cluster; name = text4; home = (Home.At (record { 0 = 1 })) }) ∷ (record { kind = Kind.Endpoint; name = text25; home = (Home.At (record { 0 = 1 })) }) ∷ (record { kind = Kind.Endpoint; name = text23; home = (Home.At (record { 0 = 1 })) }) ∷ [])
+key = key_from ((record { kind = Kind.Listener; name = text0; home = (Home.At (record { 0 = 1 })) }) ∷ (record { kind = Kind.Route; name = text1; home = (Home.At (record { 0 = 1 })) }) ∷ (record { kind = Kind.Cluster; name = text4; home = (Home.At (record { 0 = 1 })) }) ∷ (record { kind = Kind.Cluster; name = text6; home = (Home.At (record { 0 = 1 })) }) ∷ (record { kind = Kind.Endpoint; name = text25; home = (Home.At (record { 0 = 1 })) }) ∷ (record { kind = Kind.Endpoint; name = text23; home = (Home.At (record { 0 = 1 })) }) ∷ [])
 
 abbrev set : Setting
 set = setting_with key 2 text0 text8
@@ -170,46 +167,46 @@ set = setting_with key 2 text0 text8
     ((Ok (record { name = text0; value = (Value.Listener (record { name = text0; routes = (RoutesFrom.Named text1) })) })) ∷ (Ok (record { name = text1; value = (Value.Route routes22) })) ∷ (Ok (record { name = text4; value = (Value.Cluster (record { name = text4; shape = (Shape.Eds text23) })) })) ∷ (Ok (record { name = text6; value = (Value.Cluster (record { name = text6; shape = (Shape.Eds text25) })) })) ∷ (Ok (record { name = text23; value = (Value.Endpoint endpoints36) })) ∷ (Ok (record { name = text25; value = (Value.Endpoint endpoints43) })) ∷ [])
 
 abbrev entry1 : Entry
-entry1 = on_line 0 5 (driven (DriverEvent.Opened (record { 0 = 1 })) Verdict.Done (Some (key Kind.Listener text0)) ((record { authority = (record { 0 = 1 }); request = (record { kind = Kind.Listener; version = []; nonce = []; names = (text0 ∷ []); node = (Some a_node); error = None }) }) ∷ []) None)
+entry1 = on_line 0 5 (driven (DriverEvent.Opened (record { 0 = 1 })) Verdict.Done (Some (key Kind.Listener text0)) ((record { authority = (record { 0 = 1 }); request = (record { kind = Kind.Listener; version = []; nonce = []; names = (text0 ∷ []); node = (Some a_node); error = None }) }) ∷ []) None ([]))
 
 abbrev entry2 : Entry
-entry2 = on_line 0 6 (driven (DriverEvent.Response (record { 0 = 1 }) (0 ∷ [])) (Verdict.Ack Kind.Listener) (Some (key Kind.Route text1)) ((record { authority = (record { 0 = 1 }); request = (record { kind = Kind.Listener; version = text2; nonce = text3; names = (text0 ∷ []); node = None; error = None }) }) ∷ (record { authority = (record { 0 = 1 }); request = (record { kind = Kind.Route; version = []; nonce = []; names = (text1 ∷ []); node = None; error = None }) }) ∷ []) None)
+entry2 = on_line 0 6 (driven (DriverEvent.Response (record { 0 = 1 }) (0 ∷ [])) (Verdict.Ack Kind.Listener) (Some (key Kind.Route text1)) ((record { authority = (record { 0 = 1 }); request = (record { kind = Kind.Listener; version = text2; nonce = text3; names = (text0 ∷ []); node = None; error = None }) }) ∷ (record { authority = (record { 0 = 1 }); request = (record { kind = Kind.Route; version = []; nonce = []; names = (text1 ∷ []); node = None; error = None }) }) ∷ []) None ([]))
 
 abbrev entry3 : Entry
-entry3 = on_line 0 6 (driven (DriverEvent.Bytes (record { 0 = 1 }) BytesHow.Whole) Verdict.Done (Some (key Kind.Route text1)) ([]) None)
+entry3 = on_line 0 6 (driven (DriverEvent.Bytes (record { 0 = 1 }) BytesHow.Whole) Verdict.Done (Some (key Kind.Route text1)) ([]) None ([]))
 
 abbrev entry4 : Entry
-entry4 = on_line 0 7 (driven (DriverEvent.Response (record { 0 = 1 }) (1 ∷ [])) (Verdict.Ack Kind.Route) (Some (key Kind.Cluster text4)) ((record { authority = (record { 0 = 1 }); request = (record { kind = Kind.Route; version = text2; nonce = text5; names = (text1 ∷ []); node = None; error = None }) }) ∷ (record { authority = (record { 0 = 1 }); request = (record { kind = Kind.Cluster; version = []; nonce = []; names = (text4 ∷ text6 ∷ []); node = None; error = None }) }) ∷ []) None)
+entry4 = on_line 0 7 (driven (DriverEvent.Response (record { 0 = 1 }) (1 ∷ [])) (Verdict.Ack Kind.Route) (Some (key Kind.Cluster text4)) ((record { authority = (record { 0 = 1 }); request = (record { kind = Kind.Route; version = text2; nonce = text5; names = (text1 ∷ []); node = None; error = None }) }) ∷ (record { authority = (record { 0 = 1 }); request = (record { kind = Kind.Cluster; version = []; nonce = []; names = (text4 ∷ text6 ∷ []); node = None; error = None }) }) ∷ []) None ([]))
 
 abbrev entry5 : Entry
-entry5 = on_line 0 7 (driven (DriverEvent.Bytes (record { 0 = 1 }) BytesHow.Whole) Verdict.Done (Some (key Kind.Cluster text4)) ([]) None)
+entry5 = on_line 0 7 (driven (DriverEvent.Bytes (record { 0 = 1 }) BytesHow.Whole) Verdict.Done (Some (key Kind.Cluster text4)) ([]) None ([]))
 
 abbrev entry6 : Entry
-entry6 = on_line 0 8 (driven (DriverEvent.Response (record { 0 = 1 }) (2 ∷ [])) (Verdict.Ack Kind.Cluster) (Some (key Kind.Endpoint text23)) ((record { authority = (record { 0 = 1 }); request = (record { kind = Kind.Cluster; version = text2; nonce = text24; names = (text4 ∷ text6 ∷ []); node = None; error = None }) }) ∷ (record { authority = (record { 0 = 1 }); request = (record { kind = Kind.Endpoint; version = []; nonce = []; names = (text23 ∷ text25 ∷ []); node = None; error = None }) }) ∷ []) None)
+entry6 = on_line 0 8 (driven (DriverEvent.Response (record { 0 = 1 }) (2 ∷ [])) (Verdict.Ack Kind.Cluster) (Some (key Kind.Endpoint text23)) ((record { authority = (record { 0 = 1 }); request = (record { kind = Kind.Cluster; version = text2; nonce = text24; names = (text4 ∷ text6 ∷ []); node = None; error = None }) }) ∷ (record { authority = (record { 0 = 1 }); request = (record { kind = Kind.Endpoint; version = []; nonce = []; names = (text23 ∷ text25 ∷ []); node = None; error = None }) }) ∷ []) None ([]))
 
 abbrev entry7 : Entry
-entry7 = on_line 0 8 (driven (DriverEvent.Bytes (record { 0 = 1 }) BytesHow.Whole) Verdict.Done (Some (key Kind.Endpoint text23)) ([]) None)
+entry7 = on_line 0 8 (driven (DriverEvent.Bytes (record { 0 = 1 }) BytesHow.Whole) Verdict.Done (Some (key Kind.Endpoint text23)) ([]) None ([]))
 
 abbrev entry8 : Entry
-entry8 = on_line 0 9 (driven (DriverEvent.Response (record { 0 = 1 }) (3 ∷ [])) (Verdict.Ack Kind.Endpoint) None ((record { authority = (record { 0 = 1 }); request = (record { kind = Kind.Endpoint; version = text2; nonce = text26; names = (text23 ∷ text25 ∷ []); node = None; error = None }) }) ∷ []) (Some 1))
+entry8 = on_line 0 9 (driven (DriverEvent.Response (record { 0 = 1 }) (3 ∷ [])) (Verdict.Ack Kind.Endpoint) None ((record { authority = (record { 0 = 1 }); request = (record { kind = Kind.Endpoint; version = text2; nonce = text26; names = (text23 ∷ text25 ∷ []); node = None; error = None }) }) ∷ []) (Some 1) ([]))
 
 abbrev entry9 : Entry
-entry9 = on_line 0 9 (driven (DriverEvent.Bytes (record { 0 = 1 }) BytesHow.Whole) Verdict.Done None ([]) None)
+entry9 = on_line 0 9 (driven (DriverEvent.Bytes (record { 0 = 1 }) BytesHow.Whole) Verdict.Done None ([]) None ([]))
 
 abbrev entry10 : Entry
-entry10 = on_line 0 10 (driven (DriverEvent.Endpoint text28 State.Ready) Verdict.Done None ([]) (Some 2))
+entry10 = on_line 0 10 (driven (DriverEvent.Endpoint text28 State.Ready) Verdict.Done None ([]) (Some 2) ([]))
 
 abbrev entry11 : Entry
-entry11 = on_line 0 11 (driven (DriverEvent.Endpoint text30 State.Ready) Verdict.Done None ([]) (Some 3))
+entry11 = on_line 0 11 (driven (DriverEvent.Endpoint text30 State.Ready) Verdict.Done None ([]) (Some 3) ([]))
 
 abbrev entry12 : Entry
-entry12 = on_line 0 12 (driven (DriverEvent.Endpoint text32 State.Ready) Verdict.Done None ([]) (Some 4))
+entry12 = on_line 0 12 (driven (DriverEvent.Endpoint text32 State.Ready) Verdict.Done None ([]) (Some 4) ([]))
 
 abbrev entry13 : Entry
-entry13 = on_line 1 13 (called (CallerEvent.Pin (record { id = (record { 0 = 0 }); path = text11; headers = []; word = 0 })) (CallerReply.Pinned 4))
+entry13 = on_line 1 13 (called (CallerEvent.Pin (record { id = (record { 0 = 0 }); path = text11; headers = ([]); word = 0 })) (CallerReply.Pinned 4))
 
 abbrev entry14 : Entry
-entry14 = on_line 1 13 (called (CallerEvent.Hold (record { id = (record { 0 = 0 }); path = text11; headers = []; word = 0 })) (CallerReply.Routed 4 (RouteAnswer.To 2 0)))
+entry14 = on_line 1 13 (called (CallerEvent.Hold (record { id = (record { 0 = 0 }); path = text11; headers = ([]); word = 0 })) (CallerReply.Routed 4 (RouteAnswer.To 2 0)))
 
 abbrev entry15 : Entry
 entry15 = on_line 1 14 (called (CallerEvent.Pick (record { 0 = 0 }) 0) (CallerReply.Endpoint 4 0 0 0))
@@ -221,7 +218,7 @@ abbrev entry17 : Entry
 entry17 = on_line 1 16 (called (CallerEvent.Commit (record { 0 = 0 })) CallerReply.Released)
 
 abbrev entry18 : Entry
-entry18 = on_line 0 0 (driven DriverEvent.Sweep Verdict.Done None ([]) None)
+entry18 = on_line 0 0 (driven DriverEvent.Sweep Verdict.Done None ([]) None ([]))
 
 abbrev snapshot1 : Snapshot
 snapshot1 = (record { number = 1; config = (record { front = (Ok (record { listener = text0; routes = routes22; host = 0 })); clusters = ((record { name = text4; state = (Ok (record { aggregate = false; leaves = ((record { name = text4; state = (Ok endpoints36) }) ∷ []) })) }) ∷ (record { name = text6; state = (Ok (record { aggregate = false; leaves = ((record { name = text6; state = (Ok endpoints43) }) ∷ []) })) }) ∷ []) }); trees = ((Ok (record { children = ((record { leaf = text4; priority = 0; view = (record { there = true; state = State.Connecting; pending = true; unused = false }) }) ∷ (record { leaf = text4; priority = 1; view = (record { there = false; state = State.Connecting; pending = false; unused = false }) }) ∷ []); chosen = 0; waiting = None; picker = (record { drops = ([]); body = PickBody.Queue }) })) ∷ (Ok (record { children = ((record { leaf = text6; priority = 0; view = (record { there = true; state = State.Connecting; pending = true; unused = false }) }) ∷ (record { leaf = text6; priority = 1; view = (record { there = false; state = State.Connecting; pending = false; unused = false }) }) ∷ []); chosen = 0; waiting = None; picker = (record { drops = ([]); body = PickBody.Queue }) })) ∷ []) })

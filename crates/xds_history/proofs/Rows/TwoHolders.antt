@@ -1,11 +1,8 @@
 -- Two holders.
-use Rattle.std.specs.Prelude.{◌≡◌, refl, ℕ, List, [], ◌∷◌, true, false, Option, Some, None, Ok, Err, codes}
+use Rattle.std.specs.Prelude.{◌≡◌, refl, List, [], ◌∷◌, true, false, Some, None, Ok, codes}
 use Rattle.xc_base.specs.declared.names.Kind.{Kind}
 use Rattle.xc_base.specs.declared.names.Key.{Key}
-use Rattle.xc_base.specs.declared.names.Home.{Home}
-use Rattle.xc_base.specs.declared.names.NameFault.{NameFault}
 use Rattle.xc_base.specs.declared.names.State.{State}
-use Rattle.xc_base.specs.declared.reason.Reason.{Reason}
 use Rattle.xds_config.specs.declared.value.Value.{Value}
 use Rattle.xds_config.specs.declared.listener_values.RoutesFrom.{RoutesFrom}
 use Rattle.xds_config.specs.declared.route_values.RouteValue.{RouteValue}
@@ -13,7 +10,6 @@ use Rattle.xds_config.specs.declared.route_values.PathTest.{PathTest}
 use Rattle.xds_config.specs.declared.route_values.Action.{Action}
 use Rattle.xds_config.specs.declared.cluster_values.Shape.{Shape}
 use Rattle.xds_config.specs.declared.endpoint_values.EndpointValue.{EndpointValue}
-use Rattle.resource_check.specs.declared.fault.Stop.{Stop}
 use Rattle.route_match.specs.declared.answer.RouteAnswer.{RouteAnswer}
 use Rattle.aggregate_expand.specs.Leaves.{goes_on, ends, leaves_within}
 use Rattle.weighted_lb.specs.declared.picker.PickBody.{PickBody}
@@ -54,7 +50,7 @@ abbrev text7 : Name
 text7 = codes "r"
 
 abbrev routes8 : RouteValue
-routes8 = (record { name = text7; hosts = ((record { name = text4; domains = (text5 ∷ []); routes = ((record { place = 0; path = (PathTest.Prefix text6 true); headers = []; fraction = None; action = (Action.To ((record { cluster = text1; weight = 1 }) ∷ [])) }) ∷ []) }) ∷ []) })
+routes8 = (record { name = text7; hosts = ((record { name = text4; domains = (text5 ∷ []); routes = ((record { place = 0; path = (PathTest.Prefix text6 true); headers = ([]); fraction = None; action = (Action.To ((record { cluster = text1; weight = 1 }) ∷ [])) }) ∷ []) }) ∷ []) })
 
 abbrev text9 : Name
 text9 = codes "n2"
@@ -84,7 +80,7 @@ abbrev text17 : Name
 text17 = codes "n4"
 
 abbrev routes18 : RouteValue
-routes18 = (record { name = text7; hosts = ((record { name = text4; domains = (text5 ∷ []); routes = ((record { place = 0; path = (PathTest.Prefix text6 true); headers = []; fraction = None; action = (Action.To ((record { cluster = text15; weight = 1 }) ∷ [])) }) ∷ []) }) ∷ []) })
+routes18 = (record { name = text7; hosts = ((record { name = text4; domains = (text5 ∷ []); routes = ((record { place = 0; path = (PathTest.Prefix text6 true); headers = ([]); fraction = None; action = (Action.To ((record { cluster = text15; weight = 1 }) ∷ [])) }) ∷ []) }) ∷ []) })
 
 abbrev text19 : Name
 text19 = codes "n5"
@@ -107,61 +103,61 @@ set = setting_with key 1 text0 text0
     ((Ok (record { name = text0; value = (Value.Listener (record { name = text0; routes = (RoutesFrom.Inline routes8) })) })) ∷ (Ok (record { name = text1; value = (Value.Cluster (record { name = text1; shape = (Shape.Eds []) })) })) ∷ (Ok (record { name = text1; value = (Value.Endpoint endpoints13) })) ∷ (Ok (record { name = text0; value = (Value.Listener (record { name = text0; routes = (RoutesFrom.Inline routes18) })) })) ∷ (Ok (record { name = text1; value = (Value.Cluster (record { name = text1; shape = (Shape.Eds []) })) })) ∷ (Ok (record { name = text15; value = (Value.Cluster (record { name = text15; shape = (Shape.Eds []) })) })) ∷ (Ok (record { name = text15; value = (Value.Endpoint endpoints22) })) ∷ [])
 
 abbrev entry1 : Entry
-entry1 = on_line 0 5 (driven (DriverEvent.Opened (record { 0 = 0 })) Verdict.Done (Some (key Kind.Listener text0)) ((record { authority = (record { 0 = 0 }); request = (record { kind = Kind.Listener; version = []; nonce = []; names = (text0 ∷ []); node = (Some a_node); error = None }) }) ∷ []) None)
+entry1 = on_line 0 5 (driven (DriverEvent.Opened (record { 0 = 0 })) Verdict.Done (Some (key Kind.Listener text0)) ((record { authority = (record { 0 = 0 }); request = (record { kind = Kind.Listener; version = []; nonce = []; names = (text0 ∷ []); node = (Some a_node); error = None }) }) ∷ []) None ([]))
 
 abbrev entry2 : Entry
-entry2 = on_line 0 6 (driven (DriverEvent.Response (record { 0 = 0 }) (0 ∷ [])) (Verdict.Ack Kind.Listener) (Some (key Kind.Cluster text1)) ((record { authority = (record { 0 = 0 }); request = (record { kind = Kind.Listener; version = text2; nonce = text3; names = (text0 ∷ []); node = None; error = None }) }) ∷ (record { authority = (record { 0 = 0 }); request = (record { kind = Kind.Cluster; version = []; nonce = []; names = (text1 ∷ []); node = None; error = None }) }) ∷ []) None)
+entry2 = on_line 0 6 (driven (DriverEvent.Response (record { 0 = 0 }) (0 ∷ [])) (Verdict.Ack Kind.Listener) (Some (key Kind.Cluster text1)) ((record { authority = (record { 0 = 0 }); request = (record { kind = Kind.Listener; version = text2; nonce = text3; names = (text0 ∷ []); node = None; error = None }) }) ∷ (record { authority = (record { 0 = 0 }); request = (record { kind = Kind.Cluster; version = []; nonce = []; names = (text1 ∷ []); node = None; error = None }) }) ∷ []) None ([]))
 
 abbrev entry3 : Entry
-entry3 = on_line 0 6 (driven (DriverEvent.Bytes (record { 0 = 0 }) BytesHow.Whole) Verdict.Done (Some (key Kind.Cluster text1)) ([]) None)
+entry3 = on_line 0 6 (driven (DriverEvent.Bytes (record { 0 = 0 }) BytesHow.Whole) Verdict.Done (Some (key Kind.Cluster text1)) ([]) None ([]))
 
 abbrev entry4 : Entry
-entry4 = on_line 0 7 (driven (DriverEvent.Response (record { 0 = 0 }) (1 ∷ [])) (Verdict.Ack Kind.Cluster) (Some (key Kind.Endpoint text1)) ((record { authority = (record { 0 = 0 }); request = (record { kind = Kind.Cluster; version = text2; nonce = text9; names = (text1 ∷ []); node = None; error = None }) }) ∷ (record { authority = (record { 0 = 0 }); request = (record { kind = Kind.Endpoint; version = []; nonce = []; names = (text1 ∷ []); node = None; error = None }) }) ∷ []) None)
+entry4 = on_line 0 7 (driven (DriverEvent.Response (record { 0 = 0 }) (1 ∷ [])) (Verdict.Ack Kind.Cluster) (Some (key Kind.Endpoint text1)) ((record { authority = (record { 0 = 0 }); request = (record { kind = Kind.Cluster; version = text2; nonce = text9; names = (text1 ∷ []); node = None; error = None }) }) ∷ (record { authority = (record { 0 = 0 }); request = (record { kind = Kind.Endpoint; version = []; nonce = []; names = (text1 ∷ []); node = None; error = None }) }) ∷ []) None ([]))
 
 abbrev entry5 : Entry
-entry5 = on_line 0 7 (driven (DriverEvent.Bytes (record { 0 = 0 }) BytesHow.Whole) Verdict.Done (Some (key Kind.Endpoint text1)) ([]) None)
+entry5 = on_line 0 7 (driven (DriverEvent.Bytes (record { 0 = 0 }) BytesHow.Whole) Verdict.Done (Some (key Kind.Endpoint text1)) ([]) None ([]))
 
 abbrev entry6 : Entry
-entry6 = on_line 0 8 (driven (DriverEvent.Response (record { 0 = 0 }) (2 ∷ [])) (Verdict.Ack Kind.Endpoint) None ((record { authority = (record { 0 = 0 }); request = (record { kind = Kind.Endpoint; version = text2; nonce = text10; names = (text1 ∷ []); node = None; error = None }) }) ∷ []) (Some 1))
+entry6 = on_line 0 8 (driven (DriverEvent.Response (record { 0 = 0 }) (2 ∷ [])) (Verdict.Ack Kind.Endpoint) None ((record { authority = (record { 0 = 0 }); request = (record { kind = Kind.Endpoint; version = text2; nonce = text10; names = (text1 ∷ []); node = None; error = None }) }) ∷ []) (Some 1) ([]))
 
 abbrev entry7 : Entry
-entry7 = on_line 0 8 (driven (DriverEvent.Bytes (record { 0 = 0 }) BytesHow.Whole) Verdict.Done None ([]) None)
+entry7 = on_line 0 8 (driven (DriverEvent.Bytes (record { 0 = 0 }) BytesHow.Whole) Verdict.Done None ([]) None ([]))
 
 abbrev entry8 : Entry
-entry8 = on_line 0 9 (driven (DriverEvent.Endpoint text12 State.Ready) Verdict.Done None ([]) (Some 2))
+entry8 = on_line 0 9 (driven (DriverEvent.Endpoint text12 State.Ready) Verdict.Done None ([]) (Some 2) ([]))
 
 abbrev entry9 : Entry
-entry9 = on_line 1 10 (called (CallerEvent.Pin (record { id = (record { 0 = 0 }); path = text14; headers = []; word = 0 })) (CallerReply.Pinned 2))
+entry9 = on_line 1 10 (called (CallerEvent.Pin (record { id = (record { 0 = 0 }); path = text14; headers = ([]); word = 0 })) (CallerReply.Pinned 2))
 
 abbrev entry10 : Entry
-entry10 = on_line 1 10 (called (CallerEvent.Hold (record { id = (record { 0 = 0 }); path = text14; headers = []; word = 0 })) (CallerReply.Routed 2 (RouteAnswer.To 0 0)))
+entry10 = on_line 1 10 (called (CallerEvent.Hold (record { id = (record { 0 = 0 }); path = text14; headers = ([]); word = 0 })) (CallerReply.Routed 2 (RouteAnswer.To 0 0)))
 
 abbrev entry11 : Entry
-entry11 = on_line 1 11 (called (CallerEvent.Pin (record { id = (record { 0 = 1 }); path = text14; headers = []; word = 0 })) (CallerReply.Pinned 2))
+entry11 = on_line 1 11 (called (CallerEvent.Pin (record { id = (record { 0 = 1 }); path = text14; headers = ([]); word = 0 })) (CallerReply.Pinned 2))
 
 abbrev entry12 : Entry
-entry12 = on_line 1 11 (called (CallerEvent.Hold (record { id = (record { 0 = 1 }); path = text14; headers = []; word = 0 })) (CallerReply.Routed 2 (RouteAnswer.To 0 0)))
+entry12 = on_line 1 11 (called (CallerEvent.Hold (record { id = (record { 0 = 1 }); path = text14; headers = ([]); word = 0 })) (CallerReply.Routed 2 (RouteAnswer.To 0 0)))
 
 abbrev entry13 : Entry
-entry13 = on_line 0 12 (driven (DriverEvent.Response (record { 0 = 0 }) (3 ∷ [])) (Verdict.Ack Kind.Listener) (Some (key Kind.Cluster text15)) ((record { authority = (record { 0 = 0 }); request = (record { kind = Kind.Listener; version = text16; nonce = text17; names = (text0 ∷ []); node = None; error = None }) }) ∷ (record { authority = (record { 0 = 0 }); request = (record { kind = Kind.Cluster; version = text2; nonce = text9; names = (text1 ∷ text15 ∷ []); node = None; error = None }) }) ∷ []) None)
+entry13 = on_line 0 12 (driven (DriverEvent.Response (record { 0 = 0 }) (3 ∷ [])) (Verdict.Ack Kind.Listener) (Some (key Kind.Cluster text15)) ((record { authority = (record { 0 = 0 }); request = (record { kind = Kind.Listener; version = text16; nonce = text17; names = (text0 ∷ []); node = None; error = None }) }) ∷ (record { authority = (record { 0 = 0 }); request = (record { kind = Kind.Cluster; version = text2; nonce = text9; names = (text1 ∷ text15 ∷ []); node = None; error = None }) }) ∷ []) None ([]))
 
 abbrev entry14 : Entry
-entry14 = on_line 0 12 (driven (DriverEvent.Bytes (record { 0 = 0 }) BytesHow.Whole) Verdict.Done (Some (key Kind.Cluster text15)) ([]) None)
+entry14 = on_line 0 12 (driven (DriverEvent.Bytes (record { 0 = 0 }) BytesHow.Whole) Verdict.Done (Some (key Kind.Cluster text15)) ([]) None ([]))
 
 abbrev entry15 : Entry
-entry15 = on_line 0 13 (driven (DriverEvent.Response (record { 0 = 0 }) (4 ∷ [])) (Verdict.Ack Kind.Cluster) (Some (key Kind.Endpoint text15)) ((record { authority = (record { 0 = 0 }); request = (record { kind = Kind.Cluster; version = text16; nonce = text19; names = (text1 ∷ text15 ∷ []); node = None; error = None }) }) ∷ (record { authority = (record { 0 = 0 }); request = (record { kind = Kind.Endpoint; version = text2; nonce = text10; names = (text1 ∷ text15 ∷ []); node = None; error = None }) }) ∷ []) None)
+entry15 = on_line 0 13 (driven (DriverEvent.Response (record { 0 = 0 }) (4 ∷ [])) (Verdict.Ack Kind.Cluster) (Some (key Kind.Endpoint text15)) ((record { authority = (record { 0 = 0 }); request = (record { kind = Kind.Cluster; version = text16; nonce = text19; names = (text1 ∷ text15 ∷ []); node = None; error = None }) }) ∷ (record { authority = (record { 0 = 0 }); request = (record { kind = Kind.Endpoint; version = text2; nonce = text10; names = (text1 ∷ text15 ∷ []); node = None; error = None }) }) ∷ []) None ([]))
 
 abbrev entry16 : Entry
-entry16 = on_line 0 13 (driven (DriverEvent.Bytes (record { 0 = 0 }) BytesHow.Whole) Verdict.Done (Some (key Kind.Endpoint text15)) ([]) None)
+entry16 = on_line 0 13 (driven (DriverEvent.Bytes (record { 0 = 0 }) BytesHow.Whole) Verdict.Done (Some (key Kind.Endpoint text15)) ([]) None ([]))
 
 abbrev entry17 : Entry
-entry17 = on_line 0 14 (driven (DriverEvent.Response (record { 0 = 0 }) (5 ∷ [])) (Verdict.Ack Kind.Endpoint) None ((record { authority = (record { 0 = 0 }); request = (record { kind = Kind.Endpoint; version = text16; nonce = text20; names = (text1 ∷ text15 ∷ []); node = None; error = None }) }) ∷ []) (Some 3))
+entry17 = on_line 0 14 (driven (DriverEvent.Response (record { 0 = 0 }) (5 ∷ [])) (Verdict.Ack Kind.Endpoint) None ((record { authority = (record { 0 = 0 }); request = (record { kind = Kind.Endpoint; version = text16; nonce = text20; names = (text1 ∷ text15 ∷ []); node = None; error = None }) }) ∷ []) (Some 3) ([]))
 
 abbrev entry18 : Entry
-entry18 = on_line 0 14 (driven (DriverEvent.Bytes (record { 0 = 0 }) BytesHow.Whole) Verdict.Done None ([]) None)
+entry18 = on_line 0 14 (driven (DriverEvent.Bytes (record { 0 = 0 }) BytesHow.Whole) Verdict.Done None ([]) None ([]))
 
 abbrev entry19 : Entry
-entry19 = on_line 0 15 (driven DriverEvent.Sweep Verdict.Done None ([]) None)
+entry19 = on_line 0 15 (driven DriverEvent.Sweep Verdict.Done None ([]) None ([]))
 
 abbrev entry20 : Entry
 entry20 = on_line 1 16 (called (CallerEvent.Pick (record { 0 = 0 }) 0) (CallerReply.Endpoint 3 0 0 0))
@@ -170,16 +166,16 @@ abbrev entry21 : Entry
 entry21 = on_line 1 17 (called (CallerEvent.Commit (record { 0 = 0 })) CallerReply.Released)
 
 abbrev entry22 : Entry
-entry22 = on_line 0 18 (driven DriverEvent.Sweep Verdict.Done None ([]) None)
+entry22 = on_line 0 18 (driven DriverEvent.Sweep Verdict.Done None ([]) None ([]))
 
 abbrev entry23 : Entry
 entry23 = on_line 1 19 (called (CallerEvent.Commit (record { 0 = 1 })) CallerReply.Released)
 
 abbrev entry24 : Entry
-entry24 = on_line 0 20 (driven DriverEvent.Sweep Verdict.Done None ((record { authority = (record { 0 = 0 }); request = (record { kind = Kind.Cluster; version = text16; nonce = text19; names = (text15 ∷ []); node = None; error = None }) }) ∷ (record { authority = (record { 0 = 0 }); request = (record { kind = Kind.Endpoint; version = text16; nonce = text20; names = (text15 ∷ []); node = None; error = None }) }) ∷ []) (Some 4))
+entry24 = on_line 0 20 (driven DriverEvent.Sweep Verdict.Done None ((record { authority = (record { 0 = 0 }); request = (record { kind = Kind.Cluster; version = text16; nonce = text19; names = (text15 ∷ []); node = None; error = None }) }) ∷ (record { authority = (record { 0 = 0 }); request = (record { kind = Kind.Endpoint; version = text16; nonce = text20; names = (text15 ∷ []); node = None; error = None }) }) ∷ []) (Some 4) ([]))
 
 abbrev entry25 : Entry
-entry25 = on_line 0 0 (driven DriverEvent.Sweep Verdict.Done None ([]) None)
+entry25 = on_line 0 0 (driven DriverEvent.Sweep Verdict.Done None ([]) None ([]))
 
 abbrev snapshot1 : Snapshot
 snapshot1 = (record { number = 1; config = (record { front = (Ok (record { listener = text0; routes = routes8; host = 0 })); clusters = ((record { name = text1; state = (Ok (record { aggregate = false; leaves = ((record { name = text1; state = (Ok endpoints13) }) ∷ []) })) }) ∷ []) }); trees = ((Ok (record { children = ((record { leaf = text1; priority = 0; view = (record { there = true; state = State.Connecting; pending = true; unused = false }) }) ∷ []); chosen = 0; waiting = None; picker = (record { drops = ([]); body = PickBody.Queue }) })) ∷ []) })
