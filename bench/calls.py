@@ -8,14 +8,11 @@ is above it.
 """
 
 import argparse
-import pathlib
-import subprocess
 import sys
-import tempfile
-import time
 
-HOME = pathlib.Path(__file__).resolve().parent.parent
-sys.path.insert(0, str(HOME / "tools"))
+import timing
+
+sys.path.insert(0, str(timing.HOME / "tools"))
 import wire  # noqa: E402
 
 
@@ -31,34 +28,16 @@ def session(lines):
     return "".join(line + "\n" for line in out)
 
 
-def seconds(program, text, runs):
-    """The least time of so many runs."""
-    best = None
-    with tempfile.NamedTemporaryFile("w", suffix=".session") as file:
-        file.write(text)
-        file.flush()
-        for _ in range(runs):
-            with open(file.name, "rb") as given:
-                start = time.perf_counter()
-                subprocess.run([program, "run"], stdin=given, stdout=subprocess.DEVNULL, check=True)
-                took = time.perf_counter() - start
-            best = took if best is None else min(best, took)
-    return best
-
-
 def main():
     parser = argparse.ArgumentParser(description="The time of 10,000 and of 100,000 lines of calls.")
     parser.add_argument("--runs", type=int, default=5, help="how often each session is played")
-    parser.add_argument("--most", type=float, help="the greatest ratio that is allowed")
+    timing.add_most(parser)
     given = parser.parse_args()
-    program = subprocess.run([HOME / "tools/built.sh"], stdout=subprocess.PIPE, check=True, text=True).stdout.strip()
-    times = {}
+    program, times = timing.built(), []
     for lines in (10_000, 100_000):
-        times[lines] = seconds(program, session(lines), given.runs)
-        print(f"{lines:,} lines of calls: {times[lines] * 1000:.1f} ms")
-    ratio = times[100_000] / times[10_000]
-    print(f"ratio: {ratio:.1f}")
-    return given.most is not None and ratio > given.most
+        times.append(timing.seconds([program, "run"], session(lines), given.runs))
+        print(f"{lines:,} lines of calls: {times[-1] * 1000:.1f} ms")
+    return timing.ratio_of(times, given)
 
 
 if __name__ == "__main__":

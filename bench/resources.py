@@ -1,19 +1,16 @@
-"""bench/resources.py [--runs N] [--copies N]: how long reading and checking a resource takes, and the same for half of it.
+"""bench/resources.py [--runs N] [--copies N] [--most RATIO]: how long reading and checking a resource takes, and the same for half of it.
 
 A listener with one virtual host of 2,000 routes to 1,024 clusters, against one of 1,000 routes to 512; and an assignment
 of 20,000 endpoints, against one of 10,000. Each is checked in so many copies. The time is the least of N runs of the
-program show_resource, less that of a run on nothing; the ratio is to be at most 2.4.
+program show_resource, less that of a run on nothing. With --most the status is 1 where a ratio is above it.
 """
 
 import argparse
-import pathlib
-import subprocess
 import sys
-import tempfile
-import time
 
-HOME = pathlib.Path(__file__).resolve().parent.parent
-sys.path.insert(0, str(HOME / "tools"))
+import timing
+
+sys.path.insert(0, str(timing.HOME / "tools"))
 import wire  # noqa: E402
 
 ASSIGNMENT = wire.TYPES + "envoy.config.endpoint.v3.ClusterLoadAssignment"
@@ -47,28 +44,17 @@ def lines(resource, copies):
 
 
 def seconds(program, text, runs):
-    """The least time of so many runs."""
-    best = None
-    with tempfile.NamedTemporaryFile("w", suffix=".resources") as file:
-        file.write(text)
-        file.flush()
-        for _ in range(runs):
-            with open(file.name, "rb") as given:
-                start = time.perf_counter()
-                ran = subprocess.run([program, "judge"], stdin=given, stdout=subprocess.PIPE, check=True, text=True)
-                took = time.perf_counter() - start
-            if "false" in ran.stdout:
-                raise SystemExit("resources.py: a resource is refused")
-            best = took if best is None else min(best, took)
-    return best
+    """The least time of so many runs, which accept each copy."""
+    return timing.seconds([program, "judge"], text, runs, lambda shown: "false" not in shown)
 
 
 def main():
     parser = argparse.ArgumentParser(description="The time of reading and checking a resource, and of one twice as large.")
     parser.add_argument("--runs", type=int, default=5, help="how often each is run")
     parser.add_argument("--copies", type=int, default=20, help="how many copies are checked in a run")
+    timing.add_most(parser)
     given = parser.parse_args()
-    program = subprocess.run([HOME / "tools/built.sh", "show_resource"], stdout=subprocess.PIPE, check=True, text=True).stdout.strip()
+    program, is_above = timing.built("show_resource"), False
     nothing = seconds(program, "", given.runs)
     for name, small, large in (
         ("routes of a listener", (1_000, listener(1_000, 512)), (2_000, listener(2_000, 1_024))),
@@ -76,8 +62,10 @@ def main():
     ):
         took = [seconds(program, lines(resource, given.copies), given.runs) - nothing for _, resource in (small, large)]
         per = [1000 * t / given.copies for t in took]
-        print(f"{name}: {small[0]:,} in {per[0]:.2f} ms, {large[0]:,} in {per[1]:.2f} ms, ratio {took[1] / took[0]:.2f}")
+        print(f"{name}: {small[0]:,} in {per[0]:.2f} ms, {large[0]:,} in {per[1]:.2f} ms")
+        is_above |= timing.ratio_of(took, given)
+    return is_above
 
 
 if __name__ == "__main__":
-    main()
+    sys.exit(main())

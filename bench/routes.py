@@ -6,13 +6,11 @@ same session without calls.
 """
 
 import argparse
-import pathlib
-import subprocess
 import sys
 
-HOME = pathlib.Path(__file__).resolve().parent.parent
-sys.path[:0] = [str(HOME / "tools"), str(HOME / "bench")]
-import calls  # noqa: E402
+import timing
+
+sys.path.insert(0, str(timing.HOME / "tools"))
 import wire  # noqa: E402
 
 
@@ -33,10 +31,10 @@ def main():
     parser.add_argument("--runs", type=int, default=5, help="how often each session is played")
     parser.add_argument("--calls", type=int, default=20_000, help="how many calls a session makes")
     given = parser.parse_args()
-    program = subprocess.run([HOME / "tools/built.sh"], stdout=subprocess.PIPE, check=True, text=True).stdout.strip()
+    command = [timing.built(), "run"]
     for routes in (10, 100, 1_000):
-        took = calls.seconds(program, session(routes, given.calls), given.runs)
-        took -= calls.seconds(program, session(routes, 0), given.runs)
+        took = timing.seconds(command, session(routes, given.calls), given.runs)
+        took -= timing.seconds(command, session(routes, 0), given.runs)
         print(f"{routes:,} routes: {given.calls / took:,.0f} calls per second")
 
 

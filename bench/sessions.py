@@ -6,13 +6,10 @@ lines. With --most the status is 1 where the ratio is above it.
 """
 
 import argparse
-import pathlib
-import subprocess
 import sys
-import tempfile
-import time
 
-HOME = pathlib.Path(__file__).resolve().parent.parent
+import timing
+
 HEAD = ["xds-session 1", 'boot {"xds_servers":[{"server_uri":"ms:1"}],"node":{"id":"n"}}', "target xds:///svc", "callers 4"]
 
 
@@ -36,37 +33,21 @@ def session(lines):
 
 def seconds(program, text, runs):
     """The least time of so many runs, which read the session whole."""
-    best = None
-    with tempfile.NamedTemporaryFile("w", suffix=".session") as file:
-        file.write(text)
-        file.flush()
-        for _ in range(runs):
-            with open(file.name, "rb") as given:
-                start = time.perf_counter()
-                ran = subprocess.run([program], stdin=given, stdout=subprocess.PIPE, check=True, text=True)
-                took = time.perf_counter() - start
-            if not ran.stdout.startswith("lines "):
-                raise SystemExit(f"sessions.py: {ran.stdout.strip()}")
-            best = took if best is None else min(best, took)
-    return best
+    return timing.seconds([program], text, runs, lambda shown: shown.startswith("lines "))
 
 
 def main():
     parser = argparse.ArgumentParser(description="The time to read sessions of 100,000 and 200,000 lines.")
     parser.add_argument("--runs", type=int, default=5, help="how often each session is read")
-    parser.add_argument("--most", type=float, help="the greatest ratio that is allowed")
+    timing.add_most(parser)
     given = parser.parse_args()
-    built = subprocess.run([HOME / "tools/built.sh", "show_session"], stdout=subprocess.PIPE, check=True, text=True)
-    program = built.stdout.strip()
+    program, times = timing.built("show_session"), []
     least = seconds(program, session(4), given.runs)
-    times = {}
     for lines in (100_000, 200_000):
         text = session(lines)
-        times[lines] = max(seconds(program, text, given.runs) - least, 1e-6)
-        print(f"{lines:,} lines: {times[lines] * 1000:.1f} ms, {len(text) / times[lines] / 1e6:.0f} MB/s")
-    ratio = times[200_000] / times[100_000]
-    print(f"ratio: {ratio:.2f}")
-    return given.most is not None and ratio > given.most
+        times.append(max(seconds(program, text, given.runs) - least, 1e-6))
+        print(f"{lines:,} lines: {times[-1] * 1000:.1f} ms, {len(text) / times[-1] / 1e6:.0f} MB/s")
+    return timing.ratio_of(times, given)
 
 
 if __name__ == "__main__":

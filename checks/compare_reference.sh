@@ -2,11 +2,8 @@
 # standard error and the statuses are byte for byte the same. XDS_REFERENCE names the folder of the reference.
 set -euo pipefail
 cd "$(dirname "$0")/.."
-reference=${XDS_REFERENCE:-../shared/oracle}
-if [ ! -e "$reference/compare.py" ]; then
-  echo "compare_reference: skipped, since there is no reference program at $reference"
-  exit
-fi
-program=$(tools/built.sh)
+. tests/reference.sh
+reference_for compare_reference
+program=$(bash tools/built.sh)
 # (1 is what the reference calls the first path.)
 PYTHONDONTWRITEBYTECODE=1 python3 "$reference/compare.py" "$program" 500 1 | sed 's/^/compare_reference: /'

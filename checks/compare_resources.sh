@@ -2,10 +2,7 @@
 # same value or reason. XDS_REFERENCE names the folder of the reference.
 set -euo pipefail
 cd "$(dirname "$0")/.."
-reference=${XDS_REFERENCE:-../shared/oracle}
-if [ ! -e "$reference/check.py" ]; then
-  echo "compare_resources: skipped, since there is no reference program at $reference"
-  exit
-fi
-show=$(tools/built.sh show_resource)
+. tests/reference.sh
+reference_for compare_resources
+show=$(bash tools/built.sh show_resource)
 python3 tests/compare_resources.py "$show" "$reference" | sed 's/^/compare_resources: /'

@@ -2,7 +2,7 @@
 # stand beside it.
 set -eu
 cd "$(dirname "$0")/.."
-program=$(tools/built.sh)
+program=$(bash tools/built.sh)
 . tests/running.sh
 
 for session in examples/*.session; do

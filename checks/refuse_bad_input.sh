@@ -2,7 +2,7 @@
 # cause on standard error, and no part of a report. A source and a sink that fail are told apart from these.
 set -eu
 cd "$(dirname "$0")/.."
-program=$(tools/built.sh)
+program=$(bash tools/built.sh)
 . tests/running.sh
 
 # refused NAME STATUS MESSAGE WORD..

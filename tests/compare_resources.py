@@ -13,10 +13,19 @@ import re
 import subprocess
 import sys
 
-HOME = pathlib.Path(__file__).resolve().parent.parent
-SPEC = importlib.util.spec_from_file_location("spelled", HOME / "tools/wire.py")  # the reference has a module wire too
-spelled = importlib.util.module_from_spec(SPEC)
-SPEC.loader.exec_module(spelled)
+TOOLS = pathlib.Path(__file__).resolve().parent.parent / "tools"
+
+
+def tool(name, path):
+    """A module of tools/. The reference has a module wire too, so the path of modules stays as it is."""
+    spec = importlib.util.spec_from_file_location(name, TOOLS / path)
+    module = importlib.util.module_from_spec(spec)
+    spec.loader.exec_module(module)
+    return module
+
+
+spelled = tool("spelled", "wire.py")
+Reference = tool("reference", "reference.py").Reference
 
 KINDS = ["listener", "route", "cluster", "endpoint"]
 
@@ -249,23 +258,9 @@ def unescaped(text):
     return re.sub(r"\\(?:u\{([0-9a-f]+)\}|(.))", one, text)
 
 
-class Reference:
-    """What is called of the reference program."""
-
-    def __init__(self, folder):
-        sys.dont_write_bytecode = True
-        sys.path.insert(0, str(folder))
-        import check
-        import fuzz
-        import patterns
-        import wire
-        self.check, self.fuzz, self.Asked = check.check, fuzz.fuzz, patterns.Asked
-        self.URLS, self.Unreadable, self.read = wire.URLS, wire.Unreadable, wire.read
-
-
 def main():
     show, folder, *rest = sys.argv[1:]
-    reference, count = Reference(pathlib.Path(folder)), int(rest[0]) if rest else 5_000
+    reference, count = Reference(folder), int(rest[0]) if rest else 5_000
     given = list(some_resources(reference, count))
     lines = "".join(f"{KINDS[kind]} {url.encode().hex()} {value.hex()}\n" for kind, url, value in given)
     ran = subprocess.run([show, "show"], input=lines.encode(), capture_output=True, timeout=600, check=False)

@@ -11,6 +11,9 @@ import random
 import subprocess
 import sys
 
+sys.path.insert(0, str(pathlib.Path(__file__).resolve().parent.parent / "tools"))
+from reference import Reference  # noqa: E402
+
 WORDS = [b"", b"0", b"01", b"x", b"d", b"c", b"-", b"+", b"+x", b"-0", b"@5", b"@", b"17", b"65535", b"65536",
          b"18446744073709551615", b"18446744073709551616", b"99999999999999999999999999", b"1000000000000",
          b"1000000000001", b"00", b"0g", b"aB", b"/", b"/x", b"x=%ff", b"x=%c3%a9", b"x=%zz", b"=x", b"X=1", b"a.-_9=",
@@ -85,13 +88,13 @@ def at_limits():
     yield head + b"c 1 start 1 1 /x\n" + b"c 1 pick 1 1\n" * 3 + b"d data - " + b"00" * (5 * 1_048_569) + b"\nd sweep"
 
 
-def sessions(fuzz, count):
+def sessions(reference, count):
     """The sessions at the limits, and so many others."""
     yield from at_limits()
     for number in range(count):
         r = random.Random(f"session {number}")
         if number % 10 == 0:
-            made = fuzz.fuzz(number, 16)
+            made = reference.fuzz(number, 16)
             yield made
             continue
         text = made
@@ -100,26 +103,21 @@ def sessions(fuzz, count):
         yield text
 
 
-def told(reader, text):
+def told(reference, text):
     """What the reference says of a session, as the program writes it."""
     try:
-        session = reader.read_session(text)
-    except reader.SessionFault as fault:
+        session = reference.read_session(text)
+    except reference.SessionFault as fault:
         return f"fault {fault.line} {fault.cause}\n"
-    return f"lines {len(session.lines)} room {reader.room(session)}\n"
+    return f"lines {len(session.lines)} room {reference.room(session)}\n"
 
 
 def main():
-    show, reference = pathlib.Path(sys.argv[1]).resolve(), pathlib.Path(sys.argv[2]).resolve()
+    show, reference = pathlib.Path(sys.argv[1]).resolve(), Reference(sys.argv[2])
     count = int(sys.argv[3]) if len(sys.argv) > 3 else 5_000
-    sys.dont_write_bytecode = True
-    sys.path.insert(0, str(reference))
-    import fuzz  # noqa: E402
-    import session as reader  # noqa: E402
-
     bad, causes = 0, {}
-    for number, text in enumerate(sessions(fuzz, count)):
-        wanted = told(reader, text)
+    for number, text in enumerate(sessions(reference, count)):
+        wanted = told(reference, text)
         ran = subprocess.run([show], input=text, capture_output=True, timeout=60, check=False)
         got = ran.stdout.decode(errors="replace") or f"status {ran.returncode}\n"
         cause = wanted.split()[2] if wanted.startswith("fault") else "none"
@@ -134,5 +132,4 @@ def main():
 
 
 if __name__ == "__main__":
-    sys.setrecursionlimit(10_000)
     sys.exit(main())

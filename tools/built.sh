@@ -1,7 +1,6 @@
-#!/usr/bin/env bash
 # tools/built.sh [NAME]: prints the path of a program of this repository, xds_replay where no name is
-# given. It is proved and built first where a source is newer than it. XDS_REPLAY=/path/to/program, or
-# SHOW_DISCOVERY=.., gives another program in its place.
+# given. It is proved and built first where a source is newer than it. XDS_REPLAY=PROGRAM, or
+# SHOW_DISCOVERY=PROGRAM, gives another program in its place.
 set -eu
 name=${1:-xds_replay}
 given=$(tr '[:lower:]' '[:upper:]' <<<"$name")

@@ -13,6 +13,8 @@ import os
 import re
 import sys
 
+from reference import Reference
+
 KINDS = ["Kind.Listener", "Kind.Route", "Kind.Cluster", "Kind.Endpoint"]
 STATES = {"ready": "State.Ready", "connecting": "State.Connecting", "failing": "State.Failing"}
 NAME_FAULTS = {"bad-escape": "BadEscape", "bad-type": "WrongType", "bad-authority": "UnknownAuthority"}
@@ -408,28 +410,6 @@ use Rattle.xds_history.specs.Setting.{Setting}
 use Rattle.xds_history.specs.Right.{shown}
 use MODULE.{a_node, response, setting_with, key_from, driven, called, on_line, replayed, as_made, snapshots, quiet}
 """
-
-
-class Reference:
-    """What is called of the reference program."""
-
-    def __init__(self, folder):
-        sys.dont_write_bytecode = True
-        sys.setrecursionlimit(10_000)
-        sys.path.insert(0, folder)
-        import check
-        import fuzz
-        import patterns
-        import play
-        import session
-        import wire
-        self.check, self.Asked = check.check, patterns.Asked
-        self.URLS, self.Unreadable, self.read = wire.URLS, wire.Unreadable, wire.read
-        self.SessionFault, self.fuzz = session.SessionFault, fuzz.fuzz
-        self.session, self.play = session.read_session, play.play
-
-    def history(self, text):
-        return self.play(self.session(text))
 
 
 def title_of(name):

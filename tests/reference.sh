@@ -1,0 +1,9 @@
+# For the checks that compare with a reference program: reference_for CHECK sets the variable `reference` to its
+# folder, which XDS_REFERENCE names, or ends the check where there is none.
+reference_for() {
+  reference=${XDS_REFERENCE:-../shared/oracle}
+  if [ ! -e "$reference/oracle.py" ]; then
+    echo "$1: skipped, since there is no reference program at $reference"
+    exit
+  fi
+}
