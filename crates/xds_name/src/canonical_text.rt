@@ -1,5 +1,5 @@
 //! Canonical names.
-ghost use Rattle.std.specs.Prelude.{◌≡◌, ◌++◌, map, codes, IfOk, string_bytes};
+ghost use Rattle.std.specs.Prelude.{◌≡◌, ◌++◌, map, codes, IfOk, string_bytes, unwrap_or};
 ghost use Rattle.std.specs.List.{join_with_byte};
 ghost use Rattle.xds_name.specs.Names.{canonical_of};
 ghost use Rattle.xds_name.specs.Parameters.{in_order, key_of, parameter_cmp};
@@ -51,20 +51,41 @@ fn joined(alloc: Global, parameters: &[&str]) -> Result<String, Memory>
     parameters.join(alloc, "&")
 }
 
-/// The canonical text of a name: an `xdstp:` name's parameters in order of their keys and then of the
-/// whole parameters. A name that hasn't the form of an `xdstp:` name is its own canonical text.
+// The canonical text of a name that isn't its own one.
 #[tactic(auto, unfolding(crate::specs::Names::canonical_of))]
-pub fn canonical(alloc: Global, text: &str) -> Result<Text, Memory>
-    ensures { IfOk result (λ name. name ≡ canonical_of text.now) }
+fn reordered(alloc: Global, text: &str) -> Result<Option<Text>, Memory>
+    ensures { IfOk result (λ name. unwrap_or name text.now ≡ canonical_of text.now) }
 {
     if parts_in(text).is_none() {
-        return Text::from_str(alloc, text);
+        return Ok(None);
     }
     let Some((head, parameters)) = cut_at('?', text) else {
-        return Text::from_str(alloc, text);
+        return Ok(None);
     };
     let parameters = in_order(alloc, parameters)?;
     let parameters = joined(alloc, &parameters)?;
     let name = format!(in alloc; "{head}?{parameters}")?;
-    Text::from_string(alloc, name)
+    let name = Text::from_string(alloc, name)?;
+    Ok(Some(name))
+}
+
+/// The canonical text of a name: an `xdstp:` name's parameters in order of their keys and then of the
+/// whole parameters. A name that hasn't the form of an `xdstp:` name is its own canonical text.
+pub fn canonical(alloc: Global, text: &str) -> Result<Text, Memory>
+    ensures { IfOk result (λ name. name ≡ canonical_of text.now) }
+{
+    match reordered(alloc, text)? {
+        Some(name) => Ok(name),
+        None => Text::from_str(alloc, text),
+    }
+}
+
+/// The same of a name that is held as a text. It is shared where it can't have another canonical text.
+pub fn canonical_name(alloc: Global, name: &Text) -> Result<Text, Memory>
+    ensures { IfOk result (λ other. other ≡ canonical_of name.now) }
+{
+    match reordered(alloc, name.as_str())? {
+        Some(other) => Ok(other),
+        None => name.clone(),
+    }
 }

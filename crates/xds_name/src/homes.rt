@@ -2,10 +2,10 @@
 ghost use Rattle.std.specs.Prelude.{◌≡◌, IfOk};
 ghost use Rattle.xds_name.specs.Names.{begins_with_digits, has_bad_escape, home_of, resource_key, type_name};
 
-use crate::canonical_text::canonical;
+use crate::canonical_text::{canonical, canonical_name};
 use crate::parts::parts_in;
 use std::alloc::Global;
-use xc_base::{Authority, Home, Key, Kind, Memory, NameFault};
+use xc_base::{Authority, Home, Key, Kind, Memory, NameFault, Text};
 use xds_bootstrap::Bootstrap;
 
 /// The type of a kind's resources, as in their type URL.
@@ -68,5 +68,15 @@ pub fn parse_name(alloc: Global, boot: &Bootstrap, kind: Kind, text: &str) -> Re
 {
     let name = canonical(alloc, text)?;
     let home = home(boot, kind, text);
+    Ok(Key { kind, name, home })
+}
+
+/// The same of a name that is held as a text, which the key shares where it can't have another canonical
+/// text.
+pub fn name_key(alloc: Global, boot: &Bootstrap, kind: Kind, name: &Text) -> Result<Key, Memory>
+    ensures { IfOk result (λ key. key ≡ resource_key boot.now.authorities kind name.now) }
+{
+    let home = home(boot, kind, name.as_str());
+    let name = canonical_name(alloc, name)?;
     Ok(Key { kind, name, home })
 }

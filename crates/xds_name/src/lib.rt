@@ -11,8 +11,8 @@ pub mod target;
 mod templates;
 mod texts;
 
-pub use canonical_text::canonical;
-pub use homes::{parse_name, type_name};
+pub use canonical_text::{canonical, canonical_name};
+pub use homes::{name_key, parse_name, type_name};
 pub use laws::{
     canonical_names_stay, names_have_forms, parameters_are_in_order, targets_have_forms,
 };

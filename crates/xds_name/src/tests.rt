@@ -1,5 +1,5 @@
 //! What no clause says: that each call succeeds with ample memory, and names and targets whose texts are known.
-use crate::{TargetFault, canonical, listener_name, parse_name};
+use crate::{TargetFault, canonical, canonical_name, listener_name, name_key, parse_name};
 use std::alloc::Global;
 use std::test::Fail;
 use xc_base::{Authority, Home, Kind, List, NameFault, Node, Text};
@@ -7,7 +7,8 @@ use xds_bootstrap::{AuthorityEntry, Bootstrap};
 
 fn is_canonical(alloc: Global, text: &str, found: &str) -> Result<bool, Fail> {
     let name = canonical(alloc, text)?;
-    Ok(name.as_str() == found)
+    let held = canonical_name(alloc, &Text::from_str(alloc, text)?)?;
+    Ok(name.as_str() == found && held.as_str() == found)
 }
 
 #[test]
@@ -84,6 +85,21 @@ fn boot(alloc: Global, template: &str) -> Result<Bootstrap, Fail> {
 fn home(alloc: Global, kind: Kind, text: &str) -> Result<Home, Fail> {
     let key = parse_name(alloc, &boot(alloc, "%s")?, kind, text)?;
     Ok(key.home)
+}
+
+#[test]
+fn a_name_that_is_held_has_the_same_key(rt: HostRuntime) -> Result<(), Fail> {
+    let alloc = rt.alloc();
+    let boot = boot(alloc, "%s")?;
+    for text in [
+        "web",
+        "xdstp://a.example/envoy.config.cluster.v3.Cluster/x?b&a",
+    ] {
+        let held = Text::from_str(alloc, text)?;
+        let key = name_key(alloc, &boot, Kind::Cluster, &held)?;
+        assert!(rt; key == parse_name(alloc, &boot, Kind::Cluster, text)?);
+    }
+    Ok(())
 }
 
 #[test]
