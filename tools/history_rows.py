@@ -405,7 +405,7 @@ use Rattle.call_journal.specs.declared.event.DriverEvent.{DriverEvent}
 use Rattle.call_journal.specs.declared.event.CallerEvent.{CallerEvent}
 use Rattle.call_journal.specs.declared.reply.CallerReply.{CallerReply}
 use Rattle.call_journal.specs.declared.entry.Entry.{Entry}
-use Rattle.xds_history.specs.Words.{Name}
+use Rattle.dep_manager.specs.Orders.{Name}
 use Rattle.xds_history.specs.Setting.{Setting}
 use Rattle.xds_history.specs.Right.{shown}
 use MODULE.{a_node, response, setting_with, key_from, driven, called, on_line, replayed, as_made, snapshots, quiet}

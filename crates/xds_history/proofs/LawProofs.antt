@@ -12,14 +12,14 @@ use Rattle.call_journal.specs.declared.reply.Sent.{Sent}
 use Rattle.call_journal.specs.declared.reply.DriverReply.{DriverReply}
 use Rattle.call_journal.specs.declared.entry.What.{What}
 use Rattle.call_journal.specs.declared.entry.Entry.{Entry}
-use Rattle.xds_history.specs.Words.{Name, sorted, name_cmp}
+use Rattle.dep_manager.specs.Orders.{Name, sorted, name_cmp}
 use Rattle.xds_history.specs.Setting.{Setting}
 use Rattle.xds_history.specs.Responses.{Came, verdict}
 use Rattle.xds_history.specs.Requests.{requests}
 use Rattle.xds_history.specs.Page.{Page, latest}
-use Rattle.xds_history.specs.Fates.{Fate}
-use Rattle.xds_history.specs.Front.{front, names_of_front}
-use Rattle.xds_history.specs.Configs.{cluster_entry, config_with}
+use Rattle.dep_manager.specs.Resources.{Resources}
+use Rattle.dep_manager.specs.Front.{front, names_of_front}
+use Rattle.dep_manager.specs.Configs.{cluster_entry, config_with}
 use Rattle.xds_history.specs.Pages.{pages, page_of, driver_page, came, present_after}
 use Rattle.xds_history.specs.Right.{IsReply, IsDriverReply, IsNumber, Shown, standing}
 use Rattle.xds_history.specs.Setting.{setting_of}
@@ -76,7 +76,7 @@ same_what s past ps e f (What.Driver event r) (What.Caller other q) same a b = a
 same_what s past ps e f (What.Caller event r) (What.Driver other q) same a b = absurd (cc same)
 same_what s past ps e f (What.Caller event r) (What.Caller other q) same a b = cc (a, b, same)
 
-abbrev entry_of : ℕ → ℕ → What → Entry
+abbrev pub entry_of : ℕ → ℕ → What → Entry
 entry_of actor line what = record { actor = actor; line = line; what = what }
 
 same_entry : (e f : Entry) → e.actor ≡ f.actor → e.line ≡ f.line → e.what ≡ f.what → e ≡ f
@@ -99,18 +99,18 @@ one_reply s (e ∷ past) (f ∷ rest) a b same = one_more s e f past rest (cc sa
 
 -- ---- no others
 
-names_of_entries : (s : Setting) (fate : Key → Fate) (names : List Name) → map (λ c. c.name) (map (cluster_entry s fate) names) ≡ names
-names_of_entries s fate [] = refl
-names_of_entries s fate (name ∷ names) = ap (λ rest. name ∷ rest) (names_of_entries s fate names)
+names_of_entries : (r : Resources) (names : List Name) → map (λ c. c.name) (map (cluster_entry r) names) ≡ names
+names_of_entries r [] = refl
+names_of_entries r (name ∷ names) = ap (λ rest. name ∷ rest) (names_of_entries r names)
 
-no_others_with : (s : Setting) (fate : Key → Fate) (references : List Name) (config : Config) (found : Option (Result Front Reason)) → option_map (config_with s fate references) found ≡ Some config → map (λ c. c.name) config.clusters ≡ sorted name_cmp (names_of_front config.front ++ references)
-no_others_with s fate references config None is = absurd (cc is)
-no_others_with s fate references config (Some found) is =
-    let made : config_with s fate references found ≡ config = cc is in
-    rw (← made) (names_of_entries s fate (sorted name_cmp (names_of_front found ++ references)))
+no_others_with : (r : Resources) (references : List Name) (config : Config) (found : Option (Result Front Reason)) → option_map (config_with r references) found ≡ Some config → map (λ c. c.name) config.clusters ≡ sorted name_cmp (names_of_front config.front ++ references)
+no_others_with r references config None is = absurd (cc is)
+no_others_with r references config (Some found) is =
+    let made : config_with r references found ≡ config = cc is in
+    rw (← made) (names_of_entries r (sorted name_cmp (names_of_front found ++ references)))
 
 pub no_others : NoOthers
-no_others s fate references config is = no_others_with s fate references config (front s fate) is
+no_others r references config is = no_others_with r references config (front r) is
 
 -- ---- few entries
 

@@ -24,6 +24,8 @@ pub mod OneStep
 pub mod PendingUnused
 pub mod SwitchBack
 pub mod WatchedAgain
+pub mod WaitingTree
+pub mod TurnsOfLeaves
 use Rattle.std.specs.Prelude.{ℕ, List, [], ◌∷◌, ◌++◌, map, Bool, ◌&&◌, if◌then◌else◌, Option, Some, None, Result, Ok, Err, unwrap_or, slice_get, is_some}
 use Rattle.std.specs.List.{filter_map, find}
 use Rattle.std.specs.Str.{bytes_eq}
@@ -46,7 +48,8 @@ use Rattle.call_journal.specs.declared.reply.DriverReply.{DriverReply}
 use Rattle.call_journal.specs.declared.reply.CallerReply.{CallerReply}
 use Rattle.call_journal.specs.declared.entry.What.{What}
 use Rattle.call_journal.specs.declared.entry.Entry.{Entry}
-use Rattle.xds_history.specs.Words.{Name, same_kind}
+use Rattle.dep_manager.specs.Orders.{Name}
+use Rattle.xds_history.specs.Words.{same_kind}
 use Rattle.xds_history.specs.Setting.{Setting}
 use Rattle.xds_history.specs.Responses.{Came, verdict, answered, stopped_at}
 use Rattle.xds_history.specs.Requests.{requests}

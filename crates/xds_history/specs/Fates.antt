@@ -6,11 +6,13 @@ use Rattle.std.specs.Option.{option_or, option_map_or}
 use Rattle.xc_base.specs.declared.names.Kind.{Kind}
 use Rattle.xc_base.specs.declared.names.Authority.{Authority}
 use Rattle.xc_base.specs.declared.names.Home.{Home}
-use Rattle.xc_base.specs.declared.names.NameFault.{NameFault}
 use Rattle.xc_base.specs.declared.names.Key.{Key}
 use Rattle.xc_base.specs.declared.names.Time.{Time}
 use Rattle.xc_base.specs.declared.reason.Reason.{Reason}
 use Rattle.xds_config.specs.declared.value.Value.{Value}
+use Rattle.xds_cache.specs.Fates.{fate_at}
+use Rattle.xds_cache.specs.declared.fate.Known.{Known}
+use Rattle.dep_manager.specs.Reach.{is_wanted}
 use Rattle.call_journal.specs.declared.event.DriverEvent.{DriverEvent}
 use Rattle.call_journal.specs.declared.entry.Entry.{Entry}
 use Rattle.xds_history.specs.Words.{among, same_kind, lives_at}
@@ -18,12 +20,6 @@ use Rattle.xds_history.specs.Setting.{Setting}
 use Rattle.xds_history.specs.Streams.{Turn, opens, turn_of, is_up, asked_in}
 use Rattle.xds_history.specs.Responses.{Came, Part, Told, answered, delivers, is_named}
 use Rattle.xds_history.specs.Page.{Page, Watched, Mark, valid, invalid, gone, watched_now, find_watched}
-
-pub data Fate : Type 0 where
-  wanted : Fate
-  value : Value → Fate
-  wrong : Reason → Fate
-  absent : Fate
 
 -- ---- the fate of a watched key, by what came since it is watched
 
@@ -46,23 +42,19 @@ was_gone (gone ∷ marks) = true
 was_gone (valid v ∷ marks) = was_gone marks
 was_gone (invalid reason ∷ marks) = was_gone marks
 
-abbrev pub fate_by : Option Value → Option Reason → Bool → Fate
-fate_by (Some v) reason was = value v
-fate_by None (Some reason) was = wrong reason
-fate_by None None true = absent
-fate_by None None false = wanted
+abbrev pub fate_by : Option Value → Option Reason → Bool → Known
+fate_by (Some v) reason was = Known.Value v
+fate_by None (Some reason) was = Known.Invalid reason
+fate_by None None true = Known.Absent
+fate_by None None false = Known.Wanted
 
 -- its value, else the reason of the last one, else absent, else wanted
-abbrev pub judged : List Mark → Fate
+abbrev pub judged : List Mark → Known
 judged marks = fate_by (last_value marks) (last_reason marks) (was_gone marks)
 
-abbrev pub has_value : Fate → Bool
-has_value (value v) = true
+abbrev pub has_value : Known → Bool
+has_value (Known.Value v) = true
 has_value _ = false
-
-abbrev pub is_wanted : Fate → Bool
-is_wanted wanted = true
-is_wanted _ = false
 
 -- ---- deletions
 
@@ -134,20 +126,9 @@ marked s c past ps now = map (with_mark s c past ps now) (watched_now ps)
 
 -- ---- the fate of any key
 
--- why a name has no home
-abbrev pub name_reason : NameFault → Reason
-name_reason NameFault.BadEscape = Reason.BadEscape
-name_reason NameFault.WrongType = Reason.BadType
-name_reason NameFault.UnknownAuthority = Reason.BadAuthority
-
-abbrev pub fate_at : Home → Option Watched → Fate
-fate_at (Home.Nowhere fault) w = wrong (name_reason fault)
-fate_at (Home.At a) None = wanted
-fate_at (Home.At a) (Some w) = judged w.marks
-
 -- invalid where it has no home, wanted where it isn't watched, else by what came
-abbrev pub fate_in : List Watched → Key → Fate
-fate_in watched key = fate_at key.home (find_watched key watched)
+abbrev pub fate_in : List Watched → Key → Known
+fate_in watched key = fate_at key.home (option_map (λ w. judged w.marks) (find_watched key watched))
 
 -- ---- watching
 

@@ -5,10 +5,7 @@ pub mod Streams
 pub mod Responses
 pub mod Page
 pub mod Fates
-pub mod Front
 pub mod References
-pub mod Reach
-pub mod Configs
 pub mod Requests
 pub mod Trees
 pub mod Pickers

@@ -12,7 +12,8 @@ use Rattle.priority_lb.specs.History.{Update}
 use Rattle.graceful_switch.specs.Takeover.{Pair}
 use Rattle.cluster_tree.specs.declared.snapshot.Snapshot.{Snapshot}
 use Rattle.call_journal.specs.declared.entry.Entry.{Entry}
-use Rattle.xds_history.specs.Words.{Name, first_some}
+use Rattle.dep_manager.specs.Orders.{Name}
+use Rattle.xds_history.specs.Words.{first_some}
 
 -- what comes for a key: a valid resource, an invalid one, or its deletion or expiry
 pub data Mark : Type 0 where

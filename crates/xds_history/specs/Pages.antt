@@ -1,5 +1,5 @@
 -- The pages of a history.
-use Rattle.std.specs.Prelude.{ℕ, List, [], ◌∷◌, Option, None, option_map, option_and_then}
+use Rattle.std.specs.Prelude.{ℕ, List, [], ◌∷◌, Option, Some, None, option_map, option_and_then}
 use Rattle.xc_base.specs.declared.names.Key.{Key}
 use Rattle.xds_config.specs.declared.config.Config.{Config}
 use Rattle.cluster_tree.specs.declared.snapshot.Snapshot.{Snapshot}
@@ -7,15 +7,16 @@ use Rattle.call_journal.specs.declared.event.DriverEvent.{DriverEvent}
 use Rattle.call_journal.specs.declared.reply.DriverReply.{DriverReply}
 use Rattle.call_journal.specs.declared.entry.What.{What}
 use Rattle.call_journal.specs.declared.entry.Entry.{Entry}
-use Rattle.xds_history.specs.Words.{Name}
-use Rattle.xds_history.specs.Setting.{Setting}
+use Rattle.dep_manager.specs.Orders.{Name}
+use Rattle.dep_manager.specs.Resources.{Resources}
+use Rattle.dep_manager.specs.Reach.{reach, missing}
+use Rattle.dep_manager.specs.Configs.{whole_config}
+use Rattle.xds_history.specs.Setting.{Setting, known_as}
 use Rattle.xds_history.specs.Clock.{now, state, time_after, reported}
 use Rattle.xds_history.specs.Responses.{Came}
 use Rattle.xds_history.specs.Page.{Page, Watched, ClusterTrees, watched_now, config_now, trees_now}
 use Rattle.xds_history.specs.Fates.{marked, fate_in, watch}
-use Rattle.xds_history.specs.Reach.{reach, missing}
 use Rattle.xds_history.specs.References.{references}
-use Rattle.xds_history.specs.Configs.{config_after}
 use Rattle.xds_history.specs.Trees.{Present, trees_after}
 use Rattle.xds_history.specs.Pickers.{views}
 
@@ -32,6 +33,11 @@ snapshot_of present config trees number = option_map with_config config
   where
     with_config : Config → Snapshot
     with_config c = record { number = number; config = c; trees = views present.state trees c }
+
+-- the configuration is made anew where no reached key is awaited, and stays else
+abbrev pub config_after : Resources → List Name → Option Key → Option Config → Option Config
+config_after r references None before = whole_config r references
+config_after r references (Some key) before = before
 
 -- What stands after a driver's entry, piece by piece, each on those before: the marks, the reached keys, the least one that
 -- is awaited, the configuration, the trees.
@@ -52,7 +58,7 @@ page_with_config e present ps watched least number config =
 
 abbrev pub page_with_missing : Setting → Entry → Present → List Page → Option ℕ → List Watched → List Name → List Key → Option Key → Page
 page_with_missing s e present ps number marks names keys least =
-    page_with_config e present ps (watch marks keys) least number (config_after s (fate_in marks) names least (config_now ps))
+    page_with_config e present ps (watch marks keys) least number (config_after (known_as s (fate_in marks)) names least (config_now ps))
 
 abbrev pub page_with_reach : Setting → Entry → Present → List Page → Option ℕ → List Watched → List Name → List Key → Page
 page_with_reach s e present ps number marks names keys =
@@ -60,7 +66,7 @@ page_with_reach s e present ps number marks names keys =
 
 abbrev pub page_with_marks : Setting → Entry → Present → List Page → Option ℕ → List Name → List Watched → Page
 page_with_marks s e present ps number names marks =
-    page_with_reach s e present ps number marks names (reach s (fate_in marks) names)
+    page_with_reach s e present ps number marks names (reach (known_as s (fate_in marks)) names)
 
 -- the snapshot has the number of the reply, which a right history gives where one is due
 abbrev pub driver_page : Setting → Entry → Came → Option ℕ → List Entry → List Page → Present → Page

@@ -23,7 +23,7 @@ use Rattle.priority_lb.specs.History as children
 use Rattle.graceful_switch.specs.Takeover.{Pair}
 use Rattle.cluster_tree.specs.declared.snapshot.NamedChild.{NamedChild}
 use Rattle.cluster_tree.specs.declared.snapshot.TreeView.{TreeView}
-use Rattle.xds_history.specs.Words.{Name}
+use Rattle.dep_manager.specs.Orders.{Name}
 use Rattle.xds_history.specs.Page.{Tree, ClusterTrees}
 use Rattle.xds_history.specs.Trees.{of_priority, children_now, chosen_child, chosen_place, leaves_now, trees_of}
 

@@ -17,7 +17,7 @@ use Rattle.cluster_tree.specs.declared.snapshot.Snapshot.{Snapshot}
 use Rattle.call_journal.specs.declared.event.CallerEvent.{CallerEvent}
 use Rattle.call_journal.specs.declared.reply.CallerReply.{CallerReply}
 use Rattle.call_journal.specs.declared.entry.What.{What}
-use Rattle.xds_history.specs.Words.{Name}
+use Rattle.dep_manager.specs.Orders.{Name}
 use Rattle.xds_history.specs.Page.{Page, Tree, ClusterTrees, trees_now, latest}
 use Rattle.xds_history.specs.References.{held}
 use Rattle.xds_history.specs.Trees.{children_now, trees_of}

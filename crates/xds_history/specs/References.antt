@@ -11,9 +11,10 @@ use Rattle.cluster_tree.specs.declared.snapshot.Snapshot.{Snapshot}
 use Rattle.call_journal.specs.declared.event.CallerEvent.{CallerEvent}
 use Rattle.call_journal.specs.declared.reply.CallerReply.{CallerReply}
 use Rattle.call_journal.specs.declared.entry.What.{What}
-use Rattle.xds_history.specs.Words.{Name, first_some, sorted, name_cmp}
+use Rattle.dep_manager.specs.Orders.{Name, sorted, name_cmp}
+use Rattle.xds_history.specs.Words.{first_some}
+use Rattle.dep_manager.specs.Front.{names_of_front}
 use Rattle.xds_history.specs.Page.{Page}
-use Rattle.xds_history.specs.Front.{names_of_front}
 
 -- the snapshot of a number
 abbrev pub snapshot_at : ℕ → List Page → Option Snapshot

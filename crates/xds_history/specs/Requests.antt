@@ -15,7 +15,8 @@ use Rattle.proto_discovery.specs.declared.request.Request.{Request}
 use Rattle.ads_stream.specs.declared.verdict.Verdict.{Verdict}
 use Rattle.call_journal.specs.declared.reply.Sent.{Sent}
 use Rattle.call_journal.specs.declared.entry.Entry.{Entry}
-use Rattle.xds_history.specs.Words.{Name, same_kind, all_kinds, lives_at}
+use Rattle.dep_manager.specs.Orders.{Name}
+use Rattle.xds_history.specs.Words.{same_kind, all_kinds, lives_at}
 use Rattle.xds_history.specs.Setting.{Setting}
 use Rattle.xds_history.specs.Streams.{turn_by, before_turn, stream, asked}
 use Rattle.xds_history.specs.Responses.{Came, Part, answered, accepted, told_of, version, nonce_on}

@@ -19,7 +19,8 @@ use Rattle.ads_stream.specs.declared.verdict.Verdict.{Verdict}
 use Rattle.call_journal.specs.declared.event.DriverEvent.{DriverEvent}
 use Rattle.call_journal.specs.declared.entry.What.{What}
 use Rattle.call_journal.specs.declared.entry.Entry.{Entry}
-use Rattle.xds_history.specs.Words.{Name, among, first_some, same_kind, same_authority, lives_at}
+use Rattle.dep_manager.specs.Orders.{Name}
+use Rattle.xds_history.specs.Words.{among, first_some, same_kind, same_authority, lives_at}
 use Rattle.xds_history.specs.Setting.{Setting}
 use Rattle.xds_history.specs.Streams.{stream, is_up, asked}
 

@@ -12,10 +12,12 @@ use Rattle.proto_discovery.specs.TypeUrls as urls
 use Rattle.xds_bootstrap.specs.declared.bootstrap.Bootstrap.{Bootstrap}
 use Rattle.xds_name.specs.Names.{resource_key}
 use Rattle.xds_name.specs.declared.target.Target.{Target}
+use Rattle.xds_cache.specs.declared.fate.Known.{Known}
+use Rattle.dep_manager.specs.Resources.{Resources}
 use Rattle.resource_check.specs.declared.resource.Checked.{Checked}
 use Rattle.resource_check.specs.declared.fault.Refusal.{Refusal}
 use Rattle.resource_check.specs.Resources.{check_of}
-use Rattle.xds_history.specs.Words.{Name}
+use Rattle.dep_manager.specs.Orders.{Name}
 
 pub record Setting : Type 0 where
   -- the listener's key, and the text for which a virtual host is chosen
@@ -41,3 +43,7 @@ setting_of boot target = record {
   kind_of = urls.kind_of;
   check = check_of;
 }
+
+-- what a configuration is made from, where this is known of the keys
+abbrev pub known_as : Setting → (Key → Known) → Resources
+known_as s fate = record { target = s.target; key = s.key; fate = fate }

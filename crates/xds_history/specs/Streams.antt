@@ -9,7 +9,8 @@ use Rattle.call_journal.specs.declared.event.DriverEvent.{DriverEvent}
 use Rattle.call_journal.specs.declared.reply.Sent.{Sent}
 use Rattle.call_journal.specs.declared.entry.What.{What}
 use Rattle.call_journal.specs.declared.entry.Entry.{Entry}
-use Rattle.xds_history.specs.Words.{Name, first_some, same_kind, same_authority}
+use Rattle.dep_manager.specs.Orders.{Name}
+use Rattle.xds_history.specs.Words.{first_some, same_kind, same_authority}
 
 -- ---- up and down
 

@@ -20,7 +20,7 @@ use Rattle.priority_lb.specs.History.{Update, names_of}
 use Rattle.priority_lb.specs.History as children
 use Rattle.priority_lb.specs.Law.{all_facts, seen_now}
 use Rattle.graceful_switch.specs.Takeover.{Pair, settled}
-use Rattle.xds_history.specs.Words.{Name}
+use Rattle.dep_manager.specs.Orders.{Name}
 use Rattle.xds_history.specs.Page.{Glimpse, Tree, ClusterTrees}
 
 -- what trees are seen by: the states of addresses, and the time

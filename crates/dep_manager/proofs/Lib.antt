@@ -1,0 +1,7 @@
+pub mod DecideLemmas
+pub mod LawfulLemmas
+pub mod Members
+pub mod OrderLemmas
+pub mod ReachLemmas
+pub mod TableLemmas
+pub mod WatchLemmas

@@ -1,0 +1,9 @@
+pub mod Orders
+pub mod Resources
+pub mod Front
+pub mod Reach
+pub mod Configs
+pub mod Watching
+pub mod Laws
+pub mod Views
+pub mod Tables
