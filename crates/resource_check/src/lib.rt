@@ -30,3 +30,11 @@ pub use resource::Checked;
 mod assignment_tests;
 #[cfg(test)]
 mod cluster_tests;
+#[cfg(test)]
+mod listener_tests;
+#[cfg(test)]
+mod name_tests;
+#[cfg(test)]
+mod route_tests;
+#[cfg(test)]
+mod test_messages;
