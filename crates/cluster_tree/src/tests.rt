@@ -23,17 +23,17 @@ use xds_config::{Config, EndpointValue, Leaf};
 // The second priority takes over while the first one fails, and is dropped 900 seconds after that one is
 // back.
 const FAILOVER: &str = "\
-0 - - *web/0:connecting+,web/1:none queue
+0 - - *web/0:connecting+,web/1:none(connecting) queue
 0 10.0.0.1:80 failing web/0:failing,*web/1:connecting+ queue
 0 10.0.0.2:80 ready web/0:failing,*web/1:ready ready 0*1 10.0.0.2:80
 0 10.0.0.1:80 connecting web/0:connecting,*web/1:ready ready 0*1 10.0.0.2:80
 0 10.0.0.1:80 ready *web/0:ready,web/1:ready~ ready 0*1 10.0.0.1:80
 899999 - - *web/0:ready,web/1:ready~ ready 0*1 10.0.0.1:80
-900000 - - *web/0:ready,web/1:none ready 0*1 10.0.0.1:80";
+900000 - - *web/0:ready,web/1:none(ready) ready 0*1 10.0.0.1:80";
 
 // A priority out of use that goes from READY to CONNECTING has a failover timer too.
 const UNUSED: &str = "\
-0 - - *web/0:connecting+,web/1:none queue
+0 - - *web/0:connecting+,web/1:none(connecting) queue
 0 10.0.0.1:80 failing web/0:failing,*web/1:connecting+ queue
 0 10.0.0.2:80 ready web/0:failing,*web/1:ready ready 0*1 10.0.0.2:80
 1000 - - web/0:failing,*web/1:ready ready 0*1 10.0.0.2:80
@@ -42,7 +42,12 @@ const UNUSED: &str = "\
 10999 - - *web/0:ready,web/1:connecting+~ ready 0*1 10.0.0.1:80
 11000 - - *web/0:ready,web/1:connecting~ ready 0*1 10.0.0.1:80
 900999 - - *web/0:ready,web/1:connecting~ ready 0*1 10.0.0.1:80
-901000 - - *web/0:ready,web/1:none ready 0*1 10.0.0.1:80";
+901000 - - *web/0:ready,web/1:none(connecting) ready 0*1 10.0.0.1:80";
+
+// The second priority isn't reached, whatever its state.
+const HIDDEN: &str = "\
+0 - - *web/0:connecting+,web/1:none(connecting) queue
+0 10.0.0.2:80 ready *web/0:connecting+,web/1:none(ready) queue";
 
 const PLAIN: &str = "\
 0 - - *g/0:connecting+ queue
@@ -58,7 +63,7 @@ const WAITING: &str = "\
 
 // The cluster is plain again while the other tree waits, which is let go.
 const BACK: &str = "\
-0 - - *g/0:ready,g/1:none ready 0*1 10.0.0.1:80";
+0 - - *g/0:ready,g/1:none(connecting) ready 0*1 10.0.0.1:80";
 
 const READY_AND_FAILING: &str = "\
 0 - - *g/0:connecting+ queue
@@ -71,7 +76,7 @@ const FAILING: &str = "\
 
 // A priority goes out of use, and its cluster into error.
 const OUT_OF_USE: &str = "\
-0 - - *web/0:connecting+,web/1:none queue
+0 - - *web/0:connecting+,web/1:none(connecting) queue
 0 10.0.0.1:80 failing web/0:failing,*web/1:connecting+ queue
 0 10.0.0.1:80 ready *web/0:ready,web/1:connecting+~ ready 0*1 10.0.0.1:80";
 
@@ -79,16 +84,16 @@ const ABSENT: &str = "\
 1 - - !absent";
 
 const ANEW: &str = "\
-2 - - *web/0:ready,web/1:none ready 0*1 10.0.0.1:80";
+2 - - *web/0:ready,web/1:none(connecting) ready 0*1 10.0.0.1:80";
 
 const OLD_LEAVES: &str = "\
-0 - - *x/0:connecting+,x/1:none queue
-0 10.0.0.9:80 ready *x/0:connecting+,x/1:none queue";
+0 - - *x/0:connecting+,x/1:none(connecting) queue
+0 10.0.0.9:80 ready *x/0:connecting+,x/1:none(connecting) queue";
 
 // Two more leaves in front, one of which is in error. The child that was chosen goes out of use; its
 // failover timer has ended by then.
 const NEW_LEAVES: &str = "\
-15000 - - *n/0:ready,m/0:none,x/0:connecting~,x/1:none ready 0*1 10.0.0.9:80";
+15000 - - *n/0:ready,m/0:none(failing),x/0:connecting~,x/1:none(connecting) ready 0*1 10.0.0.9:80";
 
 const SHED: &str = "\
 0 - - *web/0:connecting+ drop shed 50/100 queue
@@ -210,6 +215,14 @@ fn a_priority_out_of_use_is_pending(rt: HostRuntime) -> Result<(), Fail> {
 }
 
 #[test]
+fn a_child_that_isnt_there_has_a_state(rt: HostRuntime) -> Result<(), Fail> {
+    let config = web(rt.alloc())?;
+    let mut trees = Trees::new(rt.alloc());
+    let mut reports = BTreeMap::new(rt.alloc());
+    play_reports(&rt, &config, &mut trees, &mut reports, HIDDEN)
+}
+
+#[test]
 fn a_cluster_changes_its_kind(rt: HostRuntime) -> Result<(), Fail> {
     let (old, new) = (plain_with_one(rt.alloc())?, aggregate(rt.alloc())?);
     let mut trees = Trees::new(rt.alloc());
@@ -275,7 +288,7 @@ fn a_picker_has_the_drop_rules_of_its_leaf(rt: HostRuntime) -> Result<(), Fail> 
 }
 
 #[test]
-fn a_child_keeps_its_timers_behind_new_leaves(rt: HostRuntime) -> Result<(), Fail> {
+fn a_child_stays_behind_new_leaves(rt: HostRuntime) -> Result<(), Fail> {
     let (old, new) = (aggregate_x(rt.alloc())?, aggregate_n_m_x(rt.alloc())?);
     let mut trees = Trees::new(rt.alloc());
     let mut reports = BTreeMap::new(rt.alloc());

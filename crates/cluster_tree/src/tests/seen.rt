@@ -37,15 +37,15 @@ fn children_text(
     Ok(text)
 }
 
-/// A child: `none` where it isn't there, else its state, then `+` where its failover timer runs, then `~`
-/// where it is out of use.
+/// A child: its state, then `+` where its failover timer runs, then `~` where it is out of use. Where it
+/// isn't there, `none` and its state.
 fn child_text(alloc: Global, child: &NamedChild) -> Result<String, Fail> {
     let leaf = child.leaf.as_str();
     let priority = child.priority;
-    if !child.view.there {
-        return Ok(format!(in alloc; "{leaf}/{priority}:none")?);
-    }
     let state = state_text(child.view.state);
+    if !child.view.there {
+        return Ok(format!(in alloc; "{leaf}/{priority}:none({state})")?);
+    }
     let pending = mark(child.view.pending, "+");
     let unused = mark(child.view.unused, "~");
     Ok(format!(in alloc; "{leaf}/{priority}:{state}{pending}{unused}")?)
