@@ -1,7 +1,6 @@
 -- What is kept of trees follows their histories.
-use Rattle.std.proofs.Common.{◌≡◌, ℕ, Bool, true, false, cond, List, [], ◌∷◌, length, map, Option, Some, None, refl, sym, ap, ◌∙◌}
+use Rattle.std.proofs.Common.{◌≡◌, ℕ, Bool, true, false, cond, List, ◌∷◌, length, map, Option, Some, None, refl, sym, ap, ◌∙◌}
 use Rattle.std.specs.Prelude.{option_map}
-use Rattle.std.specs.List.{zip}
 use Rattle.std.proofs.lemmas.List.{length-map}
 use Rattle.std.proofs.lemmas.Slice.Zip.{firsts-zip, seconds-zip}
 use Rattle.xc_base.specs.declared.names.State.{State}
@@ -15,8 +14,8 @@ use Rattle.priority_lb.specs.Law.{places, all_facts, seen_now}
 use Rattle.priority_lb.proofs.HistoryLemmas.{one_step}
 use Rattle.graceful_switch.specs.Takeover.{Pair, has_to_wait, settled}
 use Rattle.cluster_tree.specs.Reports.{Reports, children_of, name_of, child_in, names_of, states_in}
-use Rattle.cluster_tree.specs.Trees.{TreeFacts, names_before, children_before, begun, stepped, followed, stayed, state_of, is_same, trees_after}
-use Rattle.cluster_tree.specs.History.{Followed, TreeHistory, update_of, facts_of, past_of, follows, histories_after, pair_facts, TreesFollowHistory}
+use Rattle.cluster_tree.specs.Trees.{TreeFacts, names_before, children_before, begun, stepped, followed, stayed, state_of, is_same}
+use Rattle.cluster_tree.specs.History.{Followed, TreeHistory, update_of, facts_of, past_of, follows, pair_facts, TreesFollowHistory}
 
 long_states : (f : Followed) → length (states_in f.reports f.leaves.leaves) ≡ length (names_of f.leaves.leaves)
 long_states f = length-map (children_of f.leaves.leaves) (child_in f.reports) ∙ sym (length-map (children_of f.leaves.leaves) name_of)

@@ -8,3 +8,4 @@ pub mod QuietLemmas
 pub mod StayLemmas
 pub mod UserLemmas
 pub mod ForestLemmas
+pub mod ReportLemmas

@@ -1,6 +1,6 @@
 use Rattle.std.proofs.Common.{◌≡◌, rules, List, ℕ, [], ◌∷◌, subst}
 use Rattle.cluster_tree.specs.Clusters.{DifferAt}
-use Rattle.tree_bench.proofs.ReportLemmas.{differ_at}
+use Rattle.cluster_tree.proofs.ReportLemmas.{differ_at}
 use Rattle.tree_bench.proofs.play.report.Goals as goal
 
 pub returns : goal.returns
