@@ -1,3 +1,4 @@
+pub mod ChainLemmas
 pub mod DecideLemmas
 pub mod LawfulLemmas
 pub mod Members

@@ -13,4 +13,4 @@ mod table;
 mod watching;
 
 pub use deps::{Deps, Outcome};
-pub use laws::fates_of_reached_keys_decide;
+pub use laws::{fates_of_reached_keys_decide, reached_by_chains};
