@@ -5,4 +5,5 @@ pub mod Members
 pub mod OrderLemmas
 pub mod ReachLemmas
 pub mod TableLemmas
+pub mod TestLemmas
 pub mod WatchLemmas

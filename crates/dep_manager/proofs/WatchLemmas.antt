@@ -1,6 +1,6 @@
 -- Keys in lists, and what is watched.
 use Rattle.std.proofs.Common.{◌≡◌, ◌⊎◌, inl, inr, ℕ, ◌+◌, ◌<◌, refl, sym, ap, ◌∙◌, List, [], ◌∷◌, ◌++◌, length, get_or, take, Bool, true, false, ◌||◌, Option, Some, None}
-use Rattle.std.specs.Prelude.{◌&&◌, not, if◌then◌else◌, IsSome}
+use Rattle.std.specs.Prelude.{◌&&◌, not, if◌then◌else◌, IsSome, is_some, option_map}
 use Rattle.std.specs.List.{list_any}
 use Rattle.std.specs.BTreeSet.{insert_key}
 use Rattle.std.specs.Ordering.{is_eq}
@@ -10,10 +10,10 @@ use Rattle.std.proofs.lemmas.List.Folds.{list_any-append}
 use Rattle.xc_base.specs.declared.names.Key.{Key}
 use Rattle.xc_keys.specs.Keys.{key_cmp, is_key}
 use Rattle.xc_keys.proofs.KeyLemmas.{derived_cmp, derived_is, same_key, is_key_equiv, exact_keys}
-use Rattle.xds_cache.specs.Fates.{Watched, known_of, watched}
+use Rattle.xds_cache.specs.Fates.{Changes, Watched, known_of, watched}
 use Rattle.xds_cache.specs.declared.fate.Known.{Known}
 use Rattle.dep_manager.specs.Orders.{sorted}
-use Rattle.dep_manager.specs.Watching.{has_key, IsKept, IsWatching}
+use Rattle.dep_manager.specs.Watching.{has_key, IsKept, IsWatching, KeepsWatched, WatchesOnly}
 use Rattle.dep_manager.proofs.OrderLemmas.{put_alike, any_put, any_sorted}
 
 -- ---- has_key
@@ -124,3 +124,33 @@ pub watching : (old mid new : Watched) (before reached set : List Key) → IsKep
 watching old mid new before reached set kept same others all k =
     reached_cases (has_key reached k) (has_key before k) (known_of old k) (known_of mid k) (known_of new k) (all k)
     (others k ∙ ap (λ b. if has_key before k && not b then None else known_of old k) (same k)) (kept k)
+
+-- ---- calls of the cache keep what is watched
+
+kept_some : (b : Bool) (change : Known? → Known?) (at now : Known?) → ((o : Known?) → is_some (change o) ≡ is_some o) → (b ≡ true → at ≡ now) → is_some (if b then change at else now) ≡ is_some now
+kept_some true change at now keeps same = keeps at ∙ ap (λ o. is_some o) (same refl)
+kept_some false change at now keeps same = refl
+
+pub keeps_watched : (old new : Watched) (x : Key) (change : Known? → Known?) → ((o : Known?) → is_some (change o) ≡ is_some o) → Changes old new x change → KeepsWatched old new
+keeps_watched old new x change keeps changes k =
+    ap (λ o. is_some o) (changes k) ∙ kept_some (is_key x k) change (known_of old x) (known_of old k) keeps (λ e. ap (known_of old) (same_key x k e))
+
+pub some_mapped : (f : Known → Known) (o : Known?) → is_some (option_map f o) ≡ is_some o
+some_mapped f None = refl
+some_mapped f (Some known) = refl
+
+pub keeps_keeps : (old mid new : Watched) → KeepsWatched old mid → KeepsWatched mid new → KeepsWatched old new
+keeps_keeps old mid new first second k = second k ∙ first k
+
+pub only_kept : (old new : Watched) (keys : List Key) → WatchesOnly old keys → KeepsWatched old new → WatchesOnly new keys
+only_kept old new keys only keeps k some = only k (sym (keeps k) ∙ some)
+
+pub only_reached : (old new : Watched) (keys : List Key) → IsWatching old new keys → WatchesOnly new keys
+only_reached old new keys watching k some = by (has_key keys k) (known_of old k) (sym (ap (λ o. is_some o) (watching k)) ∙ some)
+  where
+    by : (b : Bool) (o : Known?) → is_some (if b then watched o else None) ≡ true → b ≡ true
+    by true o some = refl
+    by false o some = absurd (true≢false (sym some))
+
+pub kept_only : (watched : Watched) (before reached : List Key) → WatchesOnly watched before → IsKept watched before reached
+kept_only watched before reached only k some = inl (only k some)

@@ -1,5 +1,5 @@
 -- Which keys a cache watches after an update.
-use Rattle.std.specs.Prelude.{◌≡◌, ◌⊎◌, List, Bool, None, IsSome, if◌then◌else◌}
+use Rattle.std.specs.Prelude.{◌≡◌, ◌⊎◌, List, Bool, true, None, IsSome, is_some, if◌then◌else◌}
 use Rattle.std.specs.List.{list_any}
 use Rattle.xc_base.specs.declared.names.Key.{Key}
 use Rattle.xc_keys.specs.Keys.{is_key}
@@ -16,8 +16,16 @@ has_key keys key = list_any (is_key key) keys
 
 -- each watched key was reached by the last update or is reached now
 abbrev pub IsKept : Watched → List Key → List Key → Type 0
-IsKept watched before reached = (key : Key) → IsSome (known_of watched key) → (has_key before key ≡ Bool.true) ⊎ (has_key reached key ≡ Bool.true)
+IsKept watched before reached = (key : Key) → IsSome (known_of watched key) → (has_key before key ≡ true) ⊎ (has_key reached key ≡ true)
 
 -- the reached keys are watched and no others; one that was watched keeps its fate
 abbrev pub IsWatching : Watched → Watched → List Key → Type 0
 IsWatching old new reached = (key : Key) → known_of new key ≡ (if has_key reached key then watched (known_of old key) else None)
+
+-- no key is watched but these
+abbrev pub WatchesOnly : Watched → List Key → Type 0
+WatchesOnly watched keys = (key : Key) → IsSome (known_of watched key) → has_key keys key ≡ true
+
+-- the same keys are watched
+abbrev pub KeepsWatched : Watched → Watched → Type 0
+KeepsWatched old new = (key : Key) → is_some (known_of new key) ≡ is_some (known_of old key)

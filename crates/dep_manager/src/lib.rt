@@ -14,3 +14,6 @@ mod watching;
 
 pub use deps::{Deps, Outcome};
 pub use laws::{fates_of_reached_keys_decide, reached_by_chains};
+
+#[cfg(test)]
+mod tests;
