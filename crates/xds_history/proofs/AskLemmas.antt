@@ -18,10 +18,12 @@ use Rattle.call_journal.specs.declared.entry.Entry.{Entry}
 use Rattle.dep_manager.specs.Orders.{Name}
 use Rattle.xds_history.specs.Words.{same_kind, same_authority, all_kinds}
 use Rattle.xds_history.specs.Setting.{Setting}
-use Rattle.xds_history.specs.Streams.{Turn, opens, ends, stays, turn_by, turned, stream, before_turn, asked_in, asked}
+use Rattle.xds_history.specs.declared.streams.Turn.{Turn}
+use Rattle.xds_history.specs.declared.streams.Turn.TheVariants.{Opens, Ends, Stays}
+use Rattle.xds_history.specs.Streams.{turn_by, turned, stream, before_turn, asked_in, asked}
 use Rattle.xds_history.specs.Responses.{Came, answered, told_of}
 use Rattle.xds_history.specs.Requests.{watched_names, same_names, is_due, request_for, request_due, is_silent, with_node, sent_to, requests_on, requests_to, requests}
-use Rattle.xds_history.specs.Page.{Watched}
+use Rattle.xds_history.specs.declared.page.Watched.{Watched}
 use Rattle.xds_history.specs.Pages.{came}
 use Rattle.xds_history.specs.Laws.{is_report, is_call}
 use Rattle.xds_history.proofs.LawProofs.{entry_of}
@@ -165,10 +167,10 @@ AreAsked s past watched = (a : Authority) → Contains (range_with_len 0 s.autho
     same_names (watched_names a kind watched) (unwrap_or (asked a kind entries) []) ≡ true
 
 on_stream : (t : Turn) (o : Option (List Entry)) (e : Entry) (entries : List Entry) → turned t e o ≡ Some entries → (before : List Entry) × (before_turn t o ≡ Some before) × (entries ≡ e ∷ before)
-on_stream opens o e entries is = ([], refl, sym (cc is))
-on_stream ends o e entries is = absurd (cc is)
-on_stream stays None e entries is = absurd (cc is)
-on_stream stays (Some xs) e entries is = (xs, refl, sym (cc is))
+on_stream Opens o e entries is = ([], refl, sym (cc is))
+on_stream Ends o e entries is = absurd (cc is)
+on_stream Stays None e entries is = absurd (cc is)
+on_stream Stays (Some xs) e entries is = (xs, refl, sym (cc is))
 
 same_themselves : (names : List Name) → same_names names names ≡ true
 same_themselves names = (slice_eq-Decides bytes_eq-Decides names names (same_names names names) refl).1 refl
@@ -194,7 +196,7 @@ pub asked_still : (s : Setting) (past : List Entry) (actor line : ℕ) (what : W
 asked_still s past actor line (What.Driver event reply) watched is are a has kind entries up = absurd (cc is)
 asked_still s past actor line (What.Caller event reply) watched is are a has kind entries up =
     let e : Entry = entry_of actor line (What.Caller event reply) in
-    let (before, was, same) = on_stream stays (stream a past) e entries up in
+    let (before, was, same) = on_stream Stays (stream a past) e entries up in
     subst (λ es. same_names (watched_names a kind watched) (unwrap_or (asked a kind es) []) ≡ true) (sym same) (are a has kind before was)
 
 -- ---- a report asks for nothing

@@ -27,7 +27,10 @@ use Rattle.call_journal.specs.declared.entry.Entry.{Entry}
 use Rattle.dep_manager.specs.Orders.{Name, name_cmp}
 use Rattle.dep_manager.specs.Front.{names_of_front}
 use Rattle.xds_history.specs.Words.{first_some}
-use Rattle.xds_history.specs.Page.{Page, Watched, ClusterTrees, config_now, latest, latest_number}
+use Rattle.xds_history.specs.declared.page.Page.{Page}
+use Rattle.xds_history.specs.declared.page.Watched.{Watched}
+use Rattle.xds_history.specs.declared.page.ClusterTrees.{ClusterTrees}
+use Rattle.xds_history.specs.Page.{config_now, latest, latest_number}
 use Rattle.xds_history.specs.References.{snapshot_at, routed_to, found_in, held, pinned, pins_after, calls, names_in, refers_to, references}
 use Rattle.xds_history.specs.Trees.{Present}
 use Rattle.xds_history.specs.Pickers.{views}

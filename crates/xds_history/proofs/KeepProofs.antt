@@ -16,7 +16,10 @@ use Rattle.dep_manager.specs.Front.{names_of_front}
 use Rattle.dep_manager.specs.Reach.{reach, missing}
 use Rattle.dep_manager.specs.Configs.{whole_config}
 use Rattle.xds_history.specs.Setting.{Setting, known_as}
-use Rattle.xds_history.specs.Page.{Page, Watched, ClusterTrees, config_now, trees_now}
+use Rattle.xds_history.specs.declared.page.Page.{Page}
+use Rattle.xds_history.specs.declared.page.Watched.{Watched}
+use Rattle.xds_history.specs.declared.page.ClusterTrees.{ClusterTrees}
+use Rattle.xds_history.specs.Page.{config_now, trees_now}
 use Rattle.xds_history.specs.Fates.{marked, fate_in, watch}
 use Rattle.xds_history.specs.References.{references}
 use Rattle.xds_history.specs.Trees.{Present, trees_after}

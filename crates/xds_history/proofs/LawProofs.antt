@@ -16,7 +16,8 @@ use Rattle.dep_manager.specs.Orders.{Name, sorted, name_cmp}
 use Rattle.xds_history.specs.Setting.{Setting}
 use Rattle.xds_history.specs.Responses.{Came, verdict}
 use Rattle.xds_history.specs.Requests.{requests}
-use Rattle.xds_history.specs.Page.{Page, latest}
+use Rattle.xds_history.specs.declared.page.Page.{Page}
+use Rattle.xds_history.specs.Page.{latest}
 use Rattle.dep_manager.specs.Resources.{Resources}
 use Rattle.dep_manager.specs.Front.{front, names_of_front}
 use Rattle.dep_manager.specs.Configs.{cluster_entry, config_with}

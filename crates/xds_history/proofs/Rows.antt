@@ -53,7 +53,7 @@ use Rattle.xds_history.specs.Words.{same_kind}
 use Rattle.xds_history.specs.Setting.{Setting}
 use Rattle.xds_history.specs.Responses.{Came, verdict, answered, stopped_at}
 use Rattle.xds_history.specs.Requests.{requests}
-use Rattle.xds_history.specs.Page.{Page}
+use Rattle.xds_history.specs.declared.page.Page.{Page}
 use Rattle.xds_history.specs.Pages.{pages, driver_page, present_after}
 use Rattle.xds_history.specs.Right.{Shown, standing, caller_reply}
 

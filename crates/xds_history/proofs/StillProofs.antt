@@ -13,7 +13,9 @@ use Rattle.dep_manager.specs.Reach.{reach, missing}
 use Rattle.dep_manager.specs.Configs.{whole_config}
 use Rattle.dep_manager.specs.Laws.{IsSame}
 use Rattle.xds_history.specs.Setting.{Setting, known_as}
-use Rattle.xds_history.specs.Page.{Page, Watched, config_now, watched_now}
+use Rattle.xds_history.specs.declared.page.Page.{Page}
+use Rattle.xds_history.specs.declared.page.Watched.{Watched}
+use Rattle.xds_history.specs.Page.{config_now, watched_now}
 use Rattle.xds_history.specs.Fates.{fate_in, watch}
 use Rattle.xds_history.specs.References.{references}
 use Rattle.xds_history.specs.Requests.{requests}

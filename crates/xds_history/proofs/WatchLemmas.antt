@@ -16,9 +16,13 @@ use Rattle.call_journal.specs.declared.entry.Entry.{Entry}
 use Rattle.dep_manager.specs.Laws.{AgreeAt}
 use Rattle.dep_manager.specs.Watching.{has_key}
 use Rattle.xds_history.specs.Setting.{Setting}
-use Rattle.xds_history.specs.Streams.{stays, turn_by}
+use Rattle.xds_history.specs.declared.streams.Turn.TheVariants.{Stays}
+use Rattle.xds_history.specs.Streams.{turn_by}
 use Rattle.xds_history.specs.Responses.{answered}
-use Rattle.xds_history.specs.Page.{Page, Watched, Mark, find_watched, watched_now}
+use Rattle.xds_history.specs.declared.page.Page.{Page}
+use Rattle.xds_history.specs.declared.page.Watched.{Watched}
+use Rattle.xds_history.specs.declared.page.Mark.{Mark}
+use Rattle.xds_history.specs.Page.{find_watched, watched_now}
 use Rattle.xds_history.specs.Fates.{judged, mark, mark_told, mark_timed, with_mark, marked, fate_in, watch, watch_key}
 use Rattle.xds_history.specs.Pages.{came}
 use Rattle.xds_history.specs.Laws.{is_report}
@@ -80,7 +84,7 @@ none_timed past ps now w (DriverEvent.Moment time) home is = absurd (cc is)
 none_timed past ps now w (DriverEvent.Endpoint address state) home is = refl
 none_timed past ps now w DriverEvent.Sweep home is = refl
 
-pub none_turned : (a : Authority) (event : DriverEvent) (verdict : Verdict) → IsTrue (is_report event) → turn_by a event verdict ≡ stays
+pub none_turned : (a : Authority) (event : DriverEvent) (verdict : Verdict) → IsTrue (is_report event) → turn_by a event verdict ≡ Stays
 none_turned a (DriverEvent.Opened b) verdict is = absurd (cc is)
 none_turned a (DriverEvent.Response b payload) verdict is = absurd (cc is)
 none_turned a (DriverEvent.Bytes b how) verdict is = absurd (cc is)

@@ -17,30 +17,38 @@ use Rattle.call_journal.specs.declared.event.DriverEvent.{DriverEvent}
 use Rattle.call_journal.specs.declared.entry.Entry.{Entry}
 use Rattle.xds_history.specs.Words.{among, same_kind, lives_at}
 use Rattle.xds_history.specs.Setting.{Setting}
-use Rattle.xds_history.specs.Streams.{Turn, opens, turn_of, is_up, asked_in}
-use Rattle.xds_history.specs.Responses.{Came, Part, Told, answered, delivers, is_named}
-use Rattle.xds_history.specs.Page.{Page, Watched, Mark, valid, invalid, gone, watched_now, find_watched}
+use Rattle.xds_history.specs.declared.streams.Turn.{Turn}
+use Rattle.xds_history.specs.declared.streams.Turn.TheVariants.{Opens}
+use Rattle.xds_history.specs.Streams.{turn_of, is_up, asked_in}
+use Rattle.xds_history.specs.declared.responses.Part.{Part}
+use Rattle.xds_history.specs.declared.responses.Told.{Told}
+use Rattle.xds_history.specs.Responses.{Came, answered, delivers, is_named}
+use Rattle.xds_history.specs.declared.page.Page.{Page}
+use Rattle.xds_history.specs.declared.page.Watched.{Watched}
+use Rattle.xds_history.specs.declared.page.Mark.{Mark}
+use Rattle.xds_history.specs.declared.page.Mark.TheVariants.{Valid, Invalid, Gone}
+use Rattle.xds_history.specs.Page.{watched_now, find_watched}
 
 -- ---- the fate of a watched key, by what came since it is watched
 
 -- the value of the last valid resource, where no deletion or expiry came after it
 abbrev pub last_value : List Mark → Option Value
 last_value [] = None
-last_value (valid v ∷ marks) = Some v
-last_value (invalid reason ∷ marks) = last_value marks
-last_value (gone ∷ marks) = None
+last_value (Valid v ∷ marks) = Some v
+last_value (Invalid reason ∷ marks) = last_value marks
+last_value (Gone ∷ marks) = None
 
 -- the reason of an invalid resource that came last of all
 abbrev pub last_reason : List Mark → Option Reason
-last_reason (invalid reason ∷ marks) = Some reason
+last_reason (Invalid reason ∷ marks) = Some reason
 last_reason _ = None
 
 -- whether it was deleted or expired
 abbrev pub was_gone : List Mark → Bool
 was_gone [] = false
-was_gone (gone ∷ marks) = true
-was_gone (valid v ∷ marks) = was_gone marks
-was_gone (invalid reason ∷ marks) = was_gone marks
+was_gone (Gone ∷ marks) = true
+was_gone (Valid v ∷ marks) = was_gone marks
+was_gone (Invalid reason ∷ marks) = was_gone marks
 
 abbrev pub fate_by : Option Value → Option Reason → Bool → Known
 fate_by (Some v) reason was = Known.Value v
@@ -78,7 +86,7 @@ is_deleted t w = deletes t.kind && same_kind t.kind w.key.kind && lives_at t.aut
 -- ---- expiries
 
 abbrev pub is_opening : Turn → Bool
-is_opening opens = true
+is_opening Opens = true
 is_opening _ = false
 
 abbrev pub is_asked_in : Authority → Key → Entry → Bool
@@ -104,14 +112,14 @@ is_expired past ps now a w = is_wanted (judged w.marks) && is_up a past && is_ov
 -- ---- what an entry brings for a watched key
 
 abbrev pub mark_of : Result Value Reason → Mark
-mark_of (Ok v) = valid v
-mark_of (Err reason) = invalid reason
+mark_of (Ok v) = Valid v
+mark_of (Err reason) = Invalid reason
 
 abbrev pub mark_told : Watched → Told → Option Mark
-mark_told w t = option_or (option_map mark_of (delivers t w.key)) (if is_deleted t w then Some gone else None)
+mark_told w t = option_or (option_map mark_of (delivers t w.key)) (if is_deleted t w then Some Gone else None)
 
 abbrev pub mark_timed : List Entry → List Page → Time → Watched → DriverEvent → Home → Option Mark
-mark_timed past ps now w (DriverEvent.Moment time) (Home.At a) = if is_expired past ps now a w then Some gone else None
+mark_timed past ps now w (DriverEvent.Moment time) (Home.At a) = if is_expired past ps now a w then Some Gone else None
 mark_timed past ps now w _ _ = None
 
 abbrev pub mark : Setting → Came → List Entry → List Page → Time → Watched → Option Mark

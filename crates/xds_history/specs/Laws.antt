@@ -17,7 +17,8 @@ use Rattle.dep_manager.specs.Front.{names_of_front}
 use Rattle.dep_manager.specs.Configs.{whole_config}
 use Rattle.xds_history.specs.Setting.{Setting}
 use Rattle.xds_history.specs.Streams.{sent_in}
-use Rattle.xds_history.specs.Page.{Page, config_now, latest, watched_now}
+use Rattle.xds_history.specs.declared.page.Page.{Page}
+use Rattle.xds_history.specs.Page.{config_now, latest, watched_now}
 use Rattle.xds_history.specs.References.{snapshot_at, held, pinned, names_in, references}
 use Rattle.xds_history.specs.Pages.{pages, page_of}
 use Rattle.xds_history.specs.Right.{Right}

@@ -14,7 +14,10 @@ use Rattle.dep_manager.specs.Configs.{whole_config}
 use Rattle.xds_history.specs.Setting.{Setting, known_as}
 use Rattle.xds_history.specs.Clock.{now, state, time_after, reported}
 use Rattle.xds_history.specs.Responses.{Came}
-use Rattle.xds_history.specs.Page.{Page, Watched, ClusterTrees, watched_now, config_now, trees_now}
+use Rattle.xds_history.specs.declared.page.Page.{Page}
+use Rattle.xds_history.specs.declared.page.Watched.{Watched}
+use Rattle.xds_history.specs.declared.page.ClusterTrees.{ClusterTrees}
+use Rattle.xds_history.specs.Page.{watched_now, config_now, trees_now}
 use Rattle.xds_history.specs.Fates.{marked, fate_in, watch}
 use Rattle.xds_history.specs.References.{references}
 use Rattle.xds_history.specs.Trees.{Present, trees_after}

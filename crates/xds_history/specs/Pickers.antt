@@ -24,7 +24,8 @@ use Rattle.graceful_switch.specs.Takeover.{Pair}
 use Rattle.cluster_tree.specs.declared.snapshot.NamedChild.{NamedChild}
 use Rattle.cluster_tree.specs.declared.snapshot.TreeView.{TreeView}
 use Rattle.dep_manager.specs.Orders.{Name}
-use Rattle.xds_history.specs.Page.{Tree, ClusterTrees}
+use Rattle.xds_history.specs.declared.page.Tree.{Tree}
+use Rattle.xds_history.specs.declared.page.ClusterTrees.{ClusterTrees}
 use Rattle.xds_history.specs.Trees.{of_priority, children_now, chosen_child, chosen_place, leaves_now, trees_of}
 
 -- ---- pickers

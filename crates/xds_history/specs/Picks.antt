@@ -18,7 +18,10 @@ use Rattle.call_journal.specs.declared.event.CallerEvent.{CallerEvent}
 use Rattle.call_journal.specs.declared.reply.CallerReply.{CallerReply}
 use Rattle.call_journal.specs.declared.entry.What.{What}
 use Rattle.dep_manager.specs.Orders.{Name}
-use Rattle.xds_history.specs.Page.{Page, Tree, ClusterTrees, trees_now, latest}
+use Rattle.xds_history.specs.declared.page.Page.{Page}
+use Rattle.xds_history.specs.declared.page.Tree.{Tree}
+use Rattle.xds_history.specs.declared.page.ClusterTrees.{ClusterTrees}
+use Rattle.xds_history.specs.Page.{trees_now, latest}
 use Rattle.xds_history.specs.References.{held}
 use Rattle.xds_history.specs.Trees.{children_now, trees_of}
 use Rattle.xds_history.specs.Pickers.{child_localities}

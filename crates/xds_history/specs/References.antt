@@ -14,7 +14,7 @@ use Rattle.call_journal.specs.declared.entry.What.{What}
 use Rattle.dep_manager.specs.Orders.{Name, sorted, name_cmp}
 use Rattle.xds_history.specs.Words.{first_some}
 use Rattle.dep_manager.specs.Front.{names_of_front}
-use Rattle.xds_history.specs.Page.{Page}
+use Rattle.xds_history.specs.declared.page.Page.{Page}
 
 -- the snapshot of a number
 abbrev pub snapshot_at : ℕ → List Page → Option Snapshot

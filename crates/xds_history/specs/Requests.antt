@@ -19,8 +19,9 @@ use Rattle.dep_manager.specs.Orders.{Name}
 use Rattle.xds_history.specs.Words.{same_kind, all_kinds, lives_at}
 use Rattle.xds_history.specs.Setting.{Setting}
 use Rattle.xds_history.specs.Streams.{turn_by, before_turn, stream, asked}
-use Rattle.xds_history.specs.Responses.{Came, Part, answered, accepted, told_of, version, nonce_on}
-use Rattle.xds_history.specs.Page.{Watched}
+use Rattle.xds_history.specs.declared.responses.Part.{Part}
+use Rattle.xds_history.specs.Responses.{Came, answered, accepted, told_of, version, nonce_on}
+use Rattle.xds_history.specs.declared.page.Watched.{Watched}
 
 -- ---- the text of a refusal
 

@@ -20,6 +20,8 @@ use Rattle.call_journal.specs.declared.event.DriverEvent.{DriverEvent}
 use Rattle.call_journal.specs.declared.entry.What.{What}
 use Rattle.call_journal.specs.declared.entry.Entry.{Entry}
 use Rattle.dep_manager.specs.Orders.{Name}
+use Rattle.xds_history.specs.declared.responses.Part.{Part}
+use Rattle.xds_history.specs.declared.responses.Told.{Told}
 use Rattle.xds_history.specs.Words.{among, first_some, same_kind, same_authority, lives_at}
 use Rattle.xds_history.specs.Setting.{Setting}
 use Rattle.xds_history.specs.Streams.{stream, is_up, asked}
@@ -31,11 +33,6 @@ pub record Came : Type 0 where
   pub event : DriverEvent
   pub verdict : Verdict
   pub refused : List Name
-
--- a resource of a response: its name, where one is known, and its value or the reason against it
-pub record Part : Type 0 where
-  pub name : Option Name
-  pub result : Result Value Reason
 
 abbrev pub part_of : Result Checked Refusal → Part
 part_of (Ok checked) = record { name = Some checked.name; result = Ok checked.value }
@@ -102,15 +99,6 @@ answered_kind _ = None
 abbrev pub accepted_kind : Verdict → Option Kind
 accepted_kind (Verdict.Ack kind) = Some kind
 accepted_kind _ = None
-
--- a response as it was read and checked
-pub record Told : Type 0 where
-  pub authority : Authority
-  pub kind : Kind
-  pub version : Name
-  pub nonce : Name
-  pub resources : List AnyValue
-  pub parts : List Part
 
 abbrev pub told_by : Setting → Authority → List Name → Option Response → Option Kind → Option Told
 told_by s a refused (Some r) (Some kind) =

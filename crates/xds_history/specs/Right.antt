@@ -16,7 +16,9 @@ use Rattle.call_journal.specs.declared.entry.Entry.{Entry}
 use Rattle.xds_history.specs.Setting.{Setting}
 use Rattle.xds_history.specs.Responses.{verdict, answered, stopped_at}
 use Rattle.xds_history.specs.Requests.{requests}
-use Rattle.xds_history.specs.Page.{Page, ClusterTrees, latest, latest_number}
+use Rattle.xds_history.specs.declared.page.Page.{Page}
+use Rattle.xds_history.specs.declared.page.ClusterTrees.{ClusterTrees}
+use Rattle.xds_history.specs.Page.{latest, latest_number}
 use Rattle.xds_history.specs.References.{held, pinned, snapshot_at}
 use Rattle.xds_history.specs.Trees.{Present}
 use Rattle.xds_history.specs.Pickers.{views}

@@ -10,15 +10,11 @@ use Rattle.call_journal.specs.declared.reply.Sent.{Sent}
 use Rattle.call_journal.specs.declared.entry.What.{What}
 use Rattle.call_journal.specs.declared.entry.Entry.{Entry}
 use Rattle.dep_manager.specs.Orders.{Name}
+use Rattle.xds_history.specs.declared.streams.Turn.{Turn}
+use Rattle.xds_history.specs.declared.streams.Turn.TheVariants.{Opens, Ends, Stays}
 use Rattle.xds_history.specs.Words.{first_some, same_kind, same_authority}
 
--- ---- up and down
-
--- what an event does to the stream of an authority
-pub data Turn : Type 0 where
-  opens : Turn
-  ends : Turn
-  stays : Turn
+-- ---- up and down: what an event does to the stream of an authority
 
 abbrev pub is_unreadable : Verdict → Bool
 is_unreadable Verdict.Unreadable = true
@@ -31,24 +27,24 @@ is_broken (BytesHow.TooLong length) = true
 is_broken _ = false
 
 abbrev pub turn_if : Bool → Turn → Turn
-turn_if test turn = if test then turn else stays
+turn_if test turn = if test then turn else Stays
 
 -- an open one is replaced; a response that can't be read ends it
 abbrev pub turn_by : Authority → DriverEvent → Verdict → Turn
-turn_by a (DriverEvent.Opened b) verdict = turn_if (same_authority a b) opens
-turn_by a (DriverEvent.Lost b) verdict = turn_if (same_authority a b) ends
-turn_by a (DriverEvent.Response b payload) verdict = turn_if (same_authority a b && is_unreadable verdict) ends
-turn_by a (DriverEvent.Bytes b how) verdict = turn_if (same_authority a b && is_broken how) ends
-turn_by a _ verdict = stays
+turn_by a (DriverEvent.Opened b) verdict = turn_if (same_authority a b) Opens
+turn_by a (DriverEvent.Lost b) verdict = turn_if (same_authority a b) Ends
+turn_by a (DriverEvent.Response b payload) verdict = turn_if (same_authority a b && is_unreadable verdict) Ends
+turn_by a (DriverEvent.Bytes b how) verdict = turn_if (same_authority a b && is_broken how) Ends
+turn_by a _ verdict = Stays
 
 abbrev pub turn_of : Authority → What → Turn
 turn_of a (What.Driver event reply) = turn_by a event reply.verdict
-turn_of a (What.Caller event reply) = stays
+turn_of a (What.Caller event reply) = Stays
 
 abbrev pub turned : {X : Type 0} → Turn → X → Option (List X) → Option (List X)
-turned opens x before = Some (x ∷ [])
-turned ends x before = None
-turned stays x before = option_map (λ xs. x ∷ xs) before
+turned Opens x before = Some (x ∷ [])
+turned Ends x before = None
+turned Stays x before = option_map (λ xs. x ∷ xs) before
 
 -- the stream of an authority, where it is up: the entries from the one that opened it on
 abbrev pub stream : Authority → List Entry → Option (List Entry)
@@ -60,9 +56,9 @@ is_up a past = is_some (stream a past)
 
 -- what stands on a stream before the entry that makes this turn
 abbrev pub before_turn : Turn → Option (List Entry) → Option (List Entry)
-before_turn opens before = Some []
-before_turn ends before = None
-before_turn stays before = before
+before_turn Opens before = Some []
+before_turn Ends before = None
+before_turn Stays before = before
 
 -- ---- what was asked
 

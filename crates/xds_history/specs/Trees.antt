@@ -21,7 +21,10 @@ use Rattle.priority_lb.specs.History as children
 use Rattle.priority_lb.specs.Law.{all_facts, seen_now}
 use Rattle.graceful_switch.specs.Takeover.{Pair, settled}
 use Rattle.dep_manager.specs.Orders.{Name}
-use Rattle.xds_history.specs.Page.{Glimpse, Tree, ClusterTrees}
+use Rattle.xds_history.specs.declared.page.Glimpse.{Glimpse}
+use Rattle.xds_history.specs.declared.page.Tree.{Tree}
+use Rattle.xds_history.specs.declared.page.ClusterTrees.{ClusterTrees}
+use Rattle.xds_history.specs.Page.{update_of, trees_in, with_trees}
 
 -- what trees are seen by: the states of addresses, and the time
 pub record Present : Type 0 where
@@ -62,7 +65,7 @@ children_of state leaves = flat_map (λ leaf. map (child_of state leaf) (range_w
 -- ---- a tree over its life
 
 abbrev pub glimpse : Present → List Leaf → Glimpse
-glimpse present leaves = record { leaves = leaves; update = record { children = children_of present.state leaves; now = present.now } }
+glimpse present leaves = record { leaves = leaves; children = children_of present.state leaves; now = present.now }
 
 -- one driver's entry later, with these leaves
 abbrev pub grown : Present → List Leaf → Tree → Tree
@@ -79,7 +82,7 @@ leaves_now tree = newest tree.life
     newest (g ∷ gs) = g.leaves
 
 abbrev pub updates : Tree → List Update
-updates tree = map (λ g. g.update) tree.life
+updates tree = map update_of tree.life
 
 -- the names of its children, with what is known of each
 abbrev pub children_now : Tree → List (children.Name × ChildFacts)
@@ -119,7 +122,7 @@ trees_with present leaves (Some before) =
     else switched present leaves before
 
 abbrev pub trees_of : Name → List ClusterTrees → Option (Pair Tree)
-trees_of name all = option_map (λ c. c.trees) (find (λ c. bytes_eq name c.cluster) all)
+trees_of name all = option_map trees_in (find (λ c. bytes_eq name c.cluster) all)
 
 -- a cluster in error has no tree
 abbrev pub cluster_trees : Present → List ClusterTrees → ClusterEntry → Option ClusterTrees
@@ -127,7 +130,7 @@ cluster_trees present before entry = in_state entry.state
   where
     in_state : Result Leaves Reason → Option ClusterTrees
     in_state (Err reason) = None
-    in_state (Ok leaves) = Some record { cluster = entry.name; trees = trees_with present leaves (trees_of entry.name before) }
+    in_state (Ok leaves) = Some (with_trees entry.name (trees_with present leaves (trees_of entry.name before)))
 
 -- the trees at a driver's entry: none where there is no configuration
 abbrev pub trees_after : Present → List ClusterTrees → Option Config → List ClusterTrees

@@ -1,0 +1,4 @@
+pub mod Given
+pub mod Pairs
+pub mod Plays
+pub mod Views

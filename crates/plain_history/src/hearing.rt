@@ -1,0 +1,156 @@
+//! How a driver's event is heard: its verdict, and what it tells as an answered response.
+ghost use Rattle.std.specs.Prelude.{◌≡◌, IfOk, Some, None, IsTrue};
+ghost use Rattle.xds_history.specs.Responses.{verdict, verdict_on_parts, verdict_on_reading, told_by, told_in, answered_kind};
+ghost use Rattle.plain_history.specs.Given.{AreShort, IsShortEvent, IsHeard, setting_in, parts_where, told_where};
+
+use crate::given::{Channel, Heard};
+use crate::parts::{copied, parts};
+use crate::streams::is_up;
+use crate::verdicts::{is_asked, verdict_on_parts};
+use ads_stream::Verdict;
+use call_journal::{DriverEvent, Entry};
+use header_match::Patterns;
+use proto_discovery::{AnyValue, Response};
+use resource_check::Asked;
+use std::alloc::{AllocError, Global};
+use xc_base::{Authority, Kind, Memory, Shared};
+use xds_history::Told;
+
+/// A verdict, and what is told as an answered response.
+#[derive(Drop)]
+struct Judged {
+    verdict: Verdict,
+    told: Option<Told>,
+}
+
+// Whether the resources can be read. Those of a payload that can be read are.
+fn are_short(resources: &[AnyValue]) -> bool
+    ensures { IsTrue result → AreShort resources.now }
+{
+    match resources.split_first() {
+        None => true,
+        Some((resource, more)) => resource.value.len() < 1 << 32 && are_short(more),
+    }
+}
+
+// The response of a kind that was asked for.
+fn judge_kind<P: Patterns>(
+    alloc: Global,
+    authority: Authority,
+    kind: Kind,
+    response: Response,
+    asked: &mut Asked,
+    patterns: &mut P,
+) -> Result<Judged, Memory>
+    ensures verdict { IfOk result (λ judged. judged.verdict ≡ verdict_on_parts kind (parts_where asked.new.1 kind response.resources)) }
+    ensures kind { IfOk result (λ judged. answered_kind judged.verdict ≡ Some kind) }
+    ensures told { IfOk result (λ judged. judged.told ≡ Some (told_where asked.new.1 authority kind response)) }
+{
+    if !are_short(response.resources.as_slice()) {
+        return Err(AllocError);
+    }
+    let parts = parts(alloc, kind, response.resources.as_slice(), asked, patterns)?;
+    let verdict = verdict_on_parts(kind, parts.as_slice());
+    let told = Told {
+        authority,
+        kind,
+        version: response.version,
+        nonce: response.nonce,
+        resources: response.resources,
+        parts,
+    };
+    Ok(Judged {
+        verdict,
+        told: Some(told),
+    })
+}
+
+// A response that was read, on a stream that is up.
+fn judge_reading<P: Patterns>(
+    alloc: Global,
+    channel: &Channel,
+    past: &[Shared<Entry>],
+    authority: Authority,
+    response: Option<Response>,
+    asked: &mut Asked,
+    patterns: &mut P,
+) -> Result<Judged, Memory>
+    ensures verdict { IfOk result (λ judged. judged.verdict ≡ verdict_on_reading (setting_in channel.now) past.now authority asked.new.1 response) }
+    ensures told { IfOk result (λ judged. judged.told ≡ told_by (setting_in channel.now) authority asked.new.1 response (answered_kind judged.verdict)) }
+{
+    let Some(response) = response else {
+        return Ok(untold(Verdict::Unreadable));
+    };
+    match channel.kind_of(&response.type_url) {
+        Some(kind) if is_asked(authority, kind, past) => {
+            judge_kind(alloc, authority, kind, response, asked, patterns)
+        }
+        _ => Ok(untold(Verdict::Ignored)),
+    }
+}
+
+fn untold(verdict: Verdict) -> Judged
+    ensures { result ≡ record { verdict = verdict; told = None } }
+{
+    Judged {
+        verdict,
+        told: None,
+    }
+}
+
+// An event after these entries.
+fn judge<P: Patterns>(
+    alloc: Global,
+    channel: &Channel,
+    past: &[Shared<Entry>],
+    event: &DriverEvent,
+    asked: &mut Asked,
+    patterns: &mut P,
+) -> Result<Judged, Memory>
+    requires { IsShortEvent event.now }
+    ensures verdict { IfOk result (λ judged. judged.verdict ≡ verdict (setting_in channel.now) past.now event.now asked.new.1) }
+    ensures told { IfOk result (λ judged. judged.told ≡ told_in (setting_in channel.now) asked.new.1 event.now (answered_kind judged.verdict)) }
+{
+    match event {
+        DriverEvent::Response { authority, payload } => {
+            if !is_up(*authority, past) {
+                return Ok(untold(Verdict::Closed));
+            }
+            let response = channel.read(alloc, payload.get())?;
+            judge_reading(alloc, channel, past, *authority, response, asked, patterns)
+        }
+        DriverEvent::Lost(authority) => {
+            if is_up(*authority, past) {
+                Ok(untold(Verdict::Done))
+            } else {
+                Ok(untold(Verdict::Closed))
+            }
+        }
+        _ => Ok(untold(Verdict::Done)),
+    }
+}
+
+/// Hears an event after these entries: its verdict, the pattern texts that `patterns` refuses at its checks,
+/// and what it tells. Memory also comes where a resource is too long to be read.
+pub fn hear<P: Patterns>(
+    alloc: Global,
+    channel: &Channel,
+    past: &[Shared<Entry>],
+    event: DriverEvent,
+    patterns: &mut P,
+) -> Result<Heard, Memory>
+    requires { IsShortEvent event }
+    ensures event { IfOk result (λ heard. heard.event ≡ event) }
+    ensures verdict { IfOk result (λ heard. heard.verdict ≡ verdict (setting_in channel.now) past.now event heard.refused) }
+    ensures told { IfOk result (λ heard. IsHeard channel.now heard) }
+{
+    let mut asked = Asked::new(alloc);
+    let Judged { verdict, told } = judge(alloc, channel, past, &event, &mut asked, patterns)?;
+    let refused = copied(alloc, asked.refused())?;
+    Ok(Heard {
+        event,
+        verdict,
+        refused,
+        told,
+    })
+}
