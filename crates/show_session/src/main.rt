@@ -2,8 +2,14 @@
 //! be compared with another implementation of it.
 #![tactic(auto)]
 
-use session_script::{SessionFault, read_session, room};
-use std::alloc::Global;
+ghost use Rattle.std.specs.Prelude.{◌≡◌, ◌+◌, ◌≤◌, IfOk, string_bytes};
+ghost use Rattle.session_script.specs.Before.{entries};
+ghost use Rattle.session_script.specs.Session.{session_of};
+ghost use Rattle.show_session.specs.Shown.{refusal_line, session_line, shown};
+ghost use Rattle.show_session.specs.declared.Fault.TheVariants.{Memory, Write};
+
+use session_script::{Cause, Session, SessionFault, read_session, room};
+use std::alloc::{AllocError, Global};
 use std::process::ExitCode;
 use xc_base::{Failed, ReadFault, Sink, Source, StdSink, StdSource, read_all, write_all};
 
@@ -30,20 +36,50 @@ impl From<ReadFault> for Fault {
     }
 }
 
+impl From<AllocError> for Fault {
+    ghost from_gives = { λ _ fault. fault ≡ Memory };
+
+    fn from(_: AllocError) -> Self {
+        Fault::Memory
+    }
+}
+
 impl From<Failed> for Fault {
+    ghost from_gives = { λ _ fault. fault ≡ Write };
+
     fn from(_: Failed) -> Self {
         Fault::Write
     }
 }
 
-// What is known of a session, in one line.
-fn shown(alloc: Global, bytes: &[u8]) -> Result<String, Fault> {
-    let text = match read_session(alloc, bytes) {
-        Ok(session) => format!(in alloc; "lines {} room {}\n", session.lines.len(), room(&session)),
-        Err(SessionFault::Script { line, cause }) => format!(in alloc; "fault {line} {cause}\n"),
-        Err(SessionFault::Memory) => return Err(Fault::Memory),
-    };
-    text.map_err(|_| Fault::Memory)
+// The line of a session: how many lines it has from line 5 on, and how many entries it makes at most.
+fn session_line(alloc: Global, session: &Session) -> Result<String, Fault>
+    requires { entries session.now.lines + 1 ≤ 1048576 }
+    ensures { IfOk result (λ text. string_bytes text ≡ session_line session.now) }
+{
+    let lines = session.lines.len();
+    let room = room(session);
+    let text = format!(in alloc; "lines {lines} room {room}\n")?;
+    Ok(text)
+}
+
+// The line of a fault.
+fn refusal_line(alloc: Global, line: u32, cause: Cause) -> Result<String, Fault>
+    ensures { IfOk result (λ text. string_bytes text ≡ refusal_line (record { line = line; cause = cause })) }
+{
+    let text = format!(in alloc; "fault {line} {cause}\n")?;
+    Ok(text)
+}
+
+// What the bytes of a session show, in one line.
+fn shown(alloc: Global, bytes: &[u8]) -> Result<String, Fault>
+    ensures { IfOk result (λ text. string_bytes text ≡ shown (session_of bytes.now)) }
+{
+    match read_session(alloc, bytes) {
+        Ok(session) => session_line(alloc, &session),
+        Err(SessionFault::Script { line, cause }) => refusal_line(alloc, line, cause),
+        Err(SessionFault::Memory) => Err(Fault::Memory),
+    }
 }
 
 fn run<S: Source, K: Sink>(alloc: Global, source: &mut S, sink: &mut K) -> Result<(), Fault> {
