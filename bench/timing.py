@@ -1,5 +1,6 @@
 """What the benchmarks share: programs of the repository, and how long a run of one takes."""
 
+import argparse
 import pathlib
 import subprocess
 import tempfile
@@ -41,3 +42,21 @@ def ratio_of(times, given):
     ratio = large / small
     print(f"ratio: {ratio:.2f}")
     return given.most is not None and ratio > given.most
+
+
+def updates_of(what, program, sizes, runs, updates, most=None):
+    """Prints what an update of a program costs with two numbers of clusters, and tells whether the ratio is more than
+    is allowed. A run's time is the least of several, less that of the same run without updates."""
+    parser = argparse.ArgumentParser(description=what)
+    parser.add_argument("--runs", type=int, default=runs, help="how often each run is made")
+    parser.add_argument("--updates", type=int, default=updates, help="how many updates are played")
+    add_most(parser)
+    parser.set_defaults(most=most)
+    given, costs = parser.parse_args(), []
+    program = built(program)
+    for clusters in sizes:
+        took = seconds([program, str(clusters), str(given.updates)], "", given.runs)
+        took -= seconds([program, str(clusters), "0"], "", given.runs)
+        costs.append(took / given.updates)
+        print(f"{clusters:,} clusters: {costs[-1] * 1e6:.1f} microseconds an update")
+    return ratio_of(costs, given)
