@@ -1,5 +1,3 @@
 pub mod AskedLemmas
-pub mod PlayLemmas
 pub mod RequestLemmas
 pub mod ShortLemmas
-pub mod TreeLemmas

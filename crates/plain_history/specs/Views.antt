@@ -1,6 +1,5 @@
 -- Tests of the definitions under names of their own.
-use Rattle.std.specs.Prelude.{List, [], Bool, ◌&&◌, if◌then◌else◌, Option, Some, None, Err, option_and_then, unwrap_or}
-use Rattle.std.specs.Option.{option_map_or}
+use Rattle.std.specs.Prelude.{List, Bool, ◌&&◌, if◌then◌else◌, Option, Some, None, Err, option_and_then}
 use Rattle.xc_base.specs.declared.names.Kind.{Kind}
 use Rattle.xc_base.specs.declared.names.Authority.{Authority}
 use Rattle.xc_base.specs.declared.reason.Reason.{Reason}
@@ -16,12 +15,8 @@ use Rattle.xc_base.specs.declared.names.Time.{Time}
 use Rattle.dep_manager.specs.Orders.{Name}
 use Rattle.xds_history.specs.declared.page.Mark.{Mark}
 use Rattle.xds_history.specs.declared.page.Page.{Page}
-use Rattle.xds_history.specs.declared.page.Tree.{Tree}
-use Rattle.xds_history.specs.Trees.{new_tree}
 use Rattle.xds_history.specs.declared.page.Watched.{Watched}
 use Rattle.xds_history.specs.declared.responses.Told.{Told}
-use Rattle.xc_base.specs.declared.names.CallId.{CallId}
-use Rattle.xds_history.specs.References.{names_in, snapshot_at, pinned}
 use Rattle.xds_history.specs.Streams.{turn_of}
 use Rattle.xds_history.specs.Fates.{is_opening, mark_told}
 
@@ -49,11 +44,3 @@ response_if a kind other taken response =
 -- a request as it is sent: the first one of a stream has the node
 abbrev pub sent_as : Setting → Authority → Bool → Request → Sent
 sent_as s a first r = sent_to a (record r { node = if first then Some s.node else r.node })
-
--- the clusters that the host of a call's pinned snapshot names
-abbrev pub pinned_names : List Page → CallId → List Name
-pinned_names ps id = option_map_or names_in (option_and_then (λ number. snapshot_at number ps) (pinned ps id)) []
-
--- the tree that waits, or a new one
-abbrev pub waiting_or_new : Option Tree → Bool → Tree
-waiting_or_new waiting aggregate = unwrap_or waiting (new_tree aggregate)

@@ -3,7 +3,6 @@ ghost use Rattle.std.specs.Prelude.{IfOk};
 
 use crate::clock::{now, state};
 use crate::fates::judged;
-use crate::references::sorted;
 use crate::refusals::error_text;
 use crate::streams::is_up;
 use ads_stream::Verdict;
@@ -169,21 +168,5 @@ fn refusals_are_told(rt: HostRuntime) -> Result<(), Fail> {
     let parts = vec![in alloc; valid, named, nameless]?;
     let text = error_text(alloc, &parts)?;
     assert!(rt; text.as_str() == "b: lb-policy; resource 2: unreadable");
-    Ok(())
-}
-
-#[test]
-fn names_are_sorted(rt: HostRuntime) -> Result<(), Fail> {
-    let alloc = rt.alloc();
-    let mut names = Vec::new(alloc);
-    for name in ["b", "a", "b", "ab"] {
-        names.push(Text::from_str(alloc, name)?)?;
-    }
-    let names = sorted(alloc, &names)?;
-    let mut joined = String::new(alloc);
-    for name in names.as_slice() {
-        joined.push_str(name.as_str())?;
-    }
-    assert!(rt; joined.as_str() == "aabb");
     Ok(())
 }
