@@ -3,6 +3,4 @@
 set -euo pipefail
 cd "$(dirname "$0")/.."
 . tests/reference.sh
-reference_for compare_resources
-show=$(bash tools/built.sh show_resource)
-python3 tests/compare_resources.py "$show" "$reference" | sed 's/^/compare_resources: /'
+compare_with_reference compare_resources show_resource

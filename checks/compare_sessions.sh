@@ -3,6 +3,4 @@
 set -euo pipefail
 cd "$(dirname "$0")/.."
 . tests/reference.sh
-reference_for compare_sessions
-show=$(bash tools/built.sh show_session)
-python3 tests/compare_sessions.py "$show" "$reference" | sed 's/^/compare_sessions: /'
+compare_with_reference compare_sessions show_session

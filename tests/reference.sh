@@ -7,3 +7,11 @@ reference_for() {
     exit
   fi
 }
+
+# compare_with_reference CHECK PROGRAM: the check of that name in tests/ compares a program with the reference.
+compare_with_reference() {
+  local show
+  reference_for "$1"
+  show=$(bash tools/built.sh "$2")
+  python3 "tests/$1.py" "$show" "$reference" | sed "s/^/$1: /"
+}
