@@ -20,7 +20,8 @@ use Rattle.dep_manager.specs.Front.{named_routes}
 use Rattle.dep_manager.specs.Reach.{aggregates, children_among, endpoint_name, endpoint_names, keys_with, on_chains, reach, reached_clusters, roots}
 use Rattle.dep_manager.specs.Watching.{has_key}
 use Rattle.dep_manager.specs.Laws.{IsClusterKey, IsEndpointKey, IsOnChain, IsReached, IsRouteKey}
-use Rattle.dep_manager.proofs.Members.{from_joined, from_option, from_sorted, in_joined, in_sorted}
+use Rattle.dep_manager.proofs.DecideLemmas.{in_chosen}
+use Rattle.dep_manager.proofs.Members.{from_joined, from_option, from_sorted, in_sorted}
 use Rattle.dep_manager.proofs.ReachLemmas.{has_route, has_target, led_on}
 
 -- ---- lists
@@ -33,12 +34,6 @@ chosen_first (Some y) ys = refl
 chosen_joined : {X Y : Type 0} (f : X → Option Y) (xs : List X) → filter_map f xs ≡ flat_map (λ x. option_to_list (f x)) xs
 chosen_joined f [] = refl
 chosen_joined f (x ∷ xs) = chosen_first (f x) (filter_map f xs) ∙ ap (λ ys. option_to_list (f x) ++ ys) (chosen_joined f xs)
-
-in_option : {Y : Type 0} (o : Option Y) (y : Y) → o ≡ Some y → Contains (option_to_list o) y
-in_option o y is = subst (λ p. Contains (option_to_list p) y) (sym is) (0, omega arith, refl)
-
-in_chosen : {X Y : Type 0} (f : X → Option Y) (xs : List X) (x : X) (y : Y) → Contains xs x → f x ≡ Some y → Contains (filter_map f xs) y
-in_chosen f xs x y has is = subst (λ ys. Contains ys y) (sym (chosen_joined f xs)) (in_joined (λ z. option_to_list (f z)) xs x y has (in_option (f x) y is))
 
 from_chosen : {X Y : Type 0} (f : X → Option Y) (xs : List X) (y : Y) → Contains (filter_map f xs) y → (x : X) × Contains xs x × (f x ≡ Some y)
 from_chosen f xs y has =

@@ -63,7 +63,7 @@ kept_option : {Y : Type 0} (o : Option Y) (y : Y) (ys : List Y) → Contains ys 
 kept_option None y ys has = has
 kept_option (Some x) y ys has = there x ys y has
 
-in_chosen : {X Y : Type 0} (f : X → Option Y) (xs : List X) (x : X) (y : Y) → Contains xs x → f x ≡ Some y → Contains (filter_map f xs) y
+pub in_chosen : {X Y : Type 0} (f : X → Option Y) (xs : List X) (x : X) (y : Y) → Contains xs x → f x ≡ Some y → Contains (filter_map f xs) y
 in_chosen f [] x y has is = absurd (no_member x has)
 in_chosen f (z ∷ xs) x y has is =
     elim (at_first z x xs has) [

@@ -4,7 +4,7 @@ use Rattle.std.specs.Prelude.{◌≢◌, ◌^◌, All, AllPairs, IfOk, IfSome, R
 use Rattle.std.specs.List.{flat_map, list_any}
 use Rattle.std.specs.List.Sorted.{IsStrictlySortedBy}
 use Rattle.std.proofs.lemmas.Bool.{true≢false}
-use Rattle.std.proofs.lemmas.List.{get_or-map}
+use Rattle.std.proofs.lemmas.List.{get_or-map, length-map}
 use Rattle.std.proofs.lemmas.List.Kept.{AllPairs-cons}
 use Rattle.std.proofs.lemmas.List.Elements.{All-map}
 use Rattle.std.proofs.lemmas.Map.Views.{All-after_first}
@@ -51,13 +51,9 @@ entries_rise r (name ∷ names) rising =
 
 pub leaves_once : (r : Resources) (names : List Name) → AllPairs (λ a b. a ≢ b) names → AllPairs (λ a b. a.name ≢ b.name) (map (leaf_of r) names)
 leaves_once r [] once = λ i j d less within. absurd (omega (arith, within))
-leaves_once r (first ∷ names) once = λ i j d less within same. once i j first less (subst (λ n. j < n) (map_length (first ∷ names)) within)
-    (sym (ap (λ l. l.name) (get_or-map (leaf_of r) (first ∷ names) i first d (omega (arith, less, subst (λ n. j < n) (map_length (first ∷ names)) within))))
-    ∙ same ∙ ap (λ l. l.name) (get_or-map (leaf_of r) (first ∷ names) j first d (subst (λ n. j < n) (map_length (first ∷ names)) within)))
-  where
-    map_length : (names : List Name) → length (map (leaf_of r) names) ≡ length names
-    map_length [] = refl
-    map_length (x ∷ names) = ap suc (map_length names)
+leaves_once r (first ∷ names) once = λ i j d less within same. once i j first less (subst (λ n. j < n) (length-map (first ∷ names) (leaf_of r)) within)
+    (sym (ap (λ l. l.name) (get_or-map (leaf_of r) (first ∷ names) i first d (omega (arith, less, subst (λ n. j < n) (length-map (first ∷ names) (leaf_of r)) within))))
+    ∙ same ∙ ap (λ l. l.name) (get_or-map (leaf_of r) (first ∷ names) j first d (subst (λ n. j < n) (length-map (first ∷ names) (leaf_of r)) within)))
 
 -- each aggregate has a child
 abbrev pub HaveChildren : Table → Type 0
@@ -116,19 +112,15 @@ children_lawful (Some cluster) children lawful is = shaped cluster.name cluster.
 pub rows_have_children : (rows : Rows) → AreLawfulRows rows → HaveChildren (row_at rows)
 rows_have_children rows lawful name children is = children_lawful (value_at rows name) children (lawful name) is
 
-map_length : {X Y : Type 0} (f : X → Y) (xs : List X) → length (map f xs) ≡ length xs
-map_length f [] = refl
-map_length f (x ∷ xs) = ap suc (map_length f xs)
-
 -- ---- configurations
 
 pub are_lawful : (r : Resources) (aggregate : Bool) (names : List Name) (leaves : List Leaf) → leaves ≡ map (leaf_of r) names → 0 < length names → AllPairs (λ a b. a ≢ b) names → All (λ leaf. IfOk leaf.state IsLawfulEndpoints) leaves → length names < 2 ^ 31
     → AreLawfulLeaves (record { aggregate = aggregate; leaves = leaves })
 are_lawful r aggregate names leaves is some once endpoints few = record {
-  some = subst (λ n. 0 < n) (sym (ap length is ∙ map_length (leaf_of r) names)) some;
+  some = subst (λ n. 0 < n) (sym (ap length is ∙ length-map names (leaf_of r))) some;
   once = subst (AllPairs (λ a b. a.name ≢ b.name)) (sym is) (leaves_once r names once);
   endpoints = endpoints;
-  few = subst (λ n. n < 2 ^ 31) (sym (ap length is ∙ map_length (leaf_of r) names)) few;
+  few = subst (λ n. n < 2 ^ 31) (sym (ap length is ∙ length-map names (leaf_of r))) few;
 }
 
 pub is_lawful : (r : Resources) (front : Result Front Reason) (names : List Name) (entries : List ClusterEntry) → IfOk front IsLawfulFront → IsStrictlySortedBy name_cmp names → entries ≡ map (cluster_entry r) names → All (λ entry. IfOk entry.state AreLawfulLeaves) entries → length names < 2 ^ 31
@@ -137,5 +129,5 @@ is_lawful r front names entries lawful rising is leaves few = record {
   front = lawful;
   clusters = leaves;
   rising = subst (AllPairs (λ a b. IsNameBefore a.name b.name)) (sym is) (entries_rise r names rising);
-  few = subst (λ n. n < 2 ^ 31) (sym (ap length is ∙ map_length (cluster_entry r) names)) few;
+  few = subst (λ n. n < 2 ^ 31) (sym (ap length is ∙ length-map names (cluster_entry r))) few;
 }

@@ -1,7 +1,8 @@
 -- Values that tests build.
-use Rattle.std.proofs.Common.{◌≡◌, suc, ◌<◌, ◌≤◌, refl, sym, ap, subst, arith, List, [], ◌∷◌, ◌++◌, length, map, false}
+use Rattle.std.proofs.Common.{◌≡◌, ◌<◌, ◌≤◌, refl, sym, subst, arith, List, [], ◌∷◌, length, false}
 use Rattle.std.specs.Prelude.{◌≢◌, All, Contains, IsTrue, codes, sum}
 use Rattle.std.proofs.lemmas.Bool.{true≢false}
+use Rattle.std.proofs.lemmas.List.{append-nil, length-map}
 use Rattle.std.proofs.lemmas.List.Elements.{All-cons, All-nil}
 use Rattle.xc_keys.proofs.MemberLemmas.{here, there}
 use Rattle.xds_config.specs.Clusters.{AreChildren}
@@ -35,14 +36,6 @@ star = codes "*"
 star_is_domain : IsTrue (is_domain star)
 star_is_domain = refl
 
-map_length : {X Y : Type 0} (f : X → Y) (xs : List X) → length (map f xs) ≡ length xs
-map_length f [] = refl
-map_length f (x ∷ xs) = ap suc (map_length f xs)
-
-and_none : (xs : List Name) → xs ++ [] ≡ xs
-and_none [] = refl
-and_none (x ∷ xs) = ap (λ ys. x ∷ ys) (and_none xs)
-
 one_host : (name : Name) (route : Route) (clusters : List Weighted) → IsLawfulSplit clusters → length clusters ≤ 16 → route.action ≡ Action.To clusters → route.place ≡ 0
     → IsLawfulHost (record { name = name; domains = star ∷ []; routes = route ∷ [] })
 one_host name route clusters lawful few action place = record {
@@ -50,7 +43,7 @@ one_host name route clusters lawful few action place = record {
   routes = All-cons IsLawfulRoute route [] (record { place = omega (arith, place); action = rw action lawful }) (All-nil IsLawfulRoute);
   rising = λ i j d less within. absurd (omega (arith, less, within));
   few = omega arith;
-  clusters = record { all = action_clusters route.action; few = rw action (omega (arith, few, map_length (λ c. c.cluster) clusters)); each = rw (and_none (action_clusters route.action)) (each_in (action_clusters route.action) (action_clusters route.action) (λ name has. has)) };
+  clusters = record { all = action_clusters route.action; few = rw action (omega (arith, few, length-map clusters (λ c. c.cluster))); each = rw (append-nil (action_clusters route.action)) (each_in (action_clusters route.action) (action_clusters route.action) (λ name has. has)) };
 }
 
 pub is_host : (name : Name) (domains : List Name) (routes : List Route) (route : Route) (clusters : List Weighted) → IsLawfulSplit clusters → length clusters ≤ 16
