@@ -6,13 +6,16 @@ use Rattle.proto_discovery.specs.declared.any.AnyValue.{AnyValue}
 use Rattle.proto_discovery.specs.declared.wrapper.Unwrapped.{Unwrapped}
 use Rattle.xc_base.specs.declared.names.Kind.{Kind}
 use Rattle.xds_name.specs.Names.{canonical_of}
-use Rattle.resource_check.specs.declared.fault.CheckFault.{CheckFault}
-use Rattle.resource_check.specs.declared.fault.CheckFault.TheVariants as fault
+use Rattle.resource_check.specs.declared.fault.Fault.{Fault}
+use Rattle.resource_check.specs.declared.fault.Fault.TheVariants.{Stopped, Memory}
+use Rattle.resource_check.specs.declared.fault.Halt.{Halt}
+use Rattle.resource_check.specs.declared.fault.Halt.TheVariants as halt
 use Rattle.resource_check.specs.declared.fault.Refusal.{Refusal}
 use Rattle.resource_check.specs.declared.raw.Raw.{Raw}
-use Rattle.resource_check.specs.Answers.{Refuses}
+use Rattle.resource_check.specs.declared.fault.Stop.{Stop}
+use Rattle.resource_check.specs.Answers.{Halts, halt_under}
 use Rattle.resource_check.specs.Resources.{found_of, given_name, message_of, name_of, under}
-use Rattle.resource_check.specs.Steps.{◌>>=◌, readable}
+use Rattle.resource_check.specs.Steps.{◌>>=◌, Tells, readable}
 use Rattle.resource_check.proofs.NameLemmas.{canonical_some}
 
 -- what holds of a value that was given
@@ -30,17 +33,24 @@ given_some name shown given empty is not_empty shows canonical =
     let P : List ℕ → Type 0 = λ t. t ≢ [] in
     subst P (sym (canonical ∙ ap canonical_of shows)) some
 
-refuses_on : {A B : Type 0} (why : CheckFault) (step : Result A Refusal) (next : A → Result B Refusal) → Refuses {A = A} why step → Refuses {A = B} why (step >>= next)
-refuses_on (fault.Refused name reason) step next (stop, is, told) = (stop, rw is refl, told)
-refuses_on fault.Memory step next told = tt
+halts_on : {A B : Type 0} (why : Halt) (step : Result A Refusal) (next : A → Result B Refusal) → Halts {A = A} why step → Halts {A = B} why (step >>= next)
+halts_on (halt.Refused refusal) step next is = rw is refl
+halts_on halt.Memory step next told = tt
 
 -- the resource is read, and has no name
-pub found_stops : (kind : Kind) (any : AnyValue) (resource : Unwrapped) (given shown : Option (List ℕ)) (raw : Raw) (why : CheckFault) → under None (readable (unwrapped any)) ≡ Ok resource → given ≡ given_name resource.name
-    → shown ≡ given → under shown (message_of kind resource.inner) ≡ Ok raw → Refuses {A = List ℕ} why (under None (name_of given raw)) → Refuses why (found_of kind any)
+pub found_stops : (kind : Kind) (any : AnyValue) (resource : Unwrapped) (given shown : Option (List ℕ)) (raw : Raw) (why : Halt) → under None (readable (unwrapped any)) ≡ Ok resource → given ≡ given_name resource.name
+    → shown ≡ given → under shown (message_of kind resource.inner) ≡ Ok raw → Halts {A = List ℕ} why (under None (name_of given raw)) → Halts why (found_of kind any)
 unfolding found_of
 found_stops kind any resource given shown raw why is_read is_given is_shown has_message told =
     let named : under (given_name resource.name) (message_of kind resource.inner) ≡ Ok raw =
     ap (λ (n : Option (List ℕ)). under n (message_of kind resource.inner)) (sym (is_shown ∙ is_given)) ∙ has_message in
-    let P : Option (List ℕ) → Type 0 = λ n. Refuses why (under None (name_of n raw)) in
-    let stopped : Refuses why (under None (name_of (given_name resource.name) raw)) = subst P is_given told in
-    rw (is_read, named) (refuses_on why (under None (name_of (given_name resource.name) raw)) (λ name. Ok record { name = name; raw = raw }) stopped)
+    let P : Option (List ℕ) → Type 0 = λ n. Halts why (under None (name_of n raw)) in
+    let stopped : Halts why (under None (name_of (given_name resource.name) raw)) = subst P is_given told in
+    rw (is_read, named) (halts_on why (under None (name_of (given_name resource.name) raw)) (λ name. Ok record { name = name; raw = raw }) stopped)
+
+-- a step that stops, stops under the name
+pub halts_under : {A : Type 0} (name : Option (List ℕ)) (fault : Fault) (answer : Result A Fault) (halt : Halt) (step : Result A Stop) → answer ≡ Err fault → halt ≡ halt_under name fault
+    → Tells answer step → Halts halt (under name step)
+halts_under name (Stopped stop) answer halt step is gives told =
+    let said : step ≡ Err stop = subst (λ a. Tells a step) is told in rw (gives, said) refl
+halts_under name Memory answer halt step is gives told = rw gives tt

@@ -1,17 +1,18 @@
 //! The check of a resource (gRFC A27, Envoy's xDS transport).
 ghost use Rattle.std.specs.Prelude.{◌≡◌, ◌≢◌, ◌<◌, ◌^◌, [], length, Result, Ok, IfOk, IfSome};
 ghost use Rattle.proto_discovery.specs.Wrapper.{unwrapped};
-ghost use Rattle.resource_check.specs.Answers.{Answers, AnswersOver, fault_under};
+ghost use Rattle.resource_check.specs.Answers.{Answers, AnswersOver, Gives, GivesOver, fault_of, halt_under};
 ghost use Rattle.resource_check.specs.Asking.{Asks, TellsOver, refusing};
 ghost use Rattle.resource_check.specs.Resources.{check_of, found_of, given_name, message_of, name_of, raw_kind, reason_of, under, value_of};
 ghost use Rattle.resource_check.specs.Steps.{Tells, readable};
+ghost use Rattle.resource_check.specs.declared.fault.Refusal.{Refusal as Stopping};
 ghost use Rattle.resource_check.specs.declared.fault.Stop.{Stop as StopAt};
 ghost use Rattle.xds_config.specs.Values.{IsLawfulValue, kind_of};
 
 use crate::asked::Asked;
 use crate::assignment::check_assignment;
 use crate::cluster::check_cluster;
-use crate::fault::{CheckFault, Fault, Stop};
+use crate::fault::{CheckFault, Fault, Halt, Refusal, Stop};
 use crate::hosts::check_routes;
 use crate::listener::check_listener;
 use crate::names::named;
@@ -38,26 +39,47 @@ fn reason(stop: Stop) -> Reason
     }
 }
 
-fn fault_under(name: Option<Text>, fault: Fault) -> CheckFault
-    ensures { result ≡ fault_under name fault }
+fn halt_under(name: Option<Text>, fault: Fault) -> Halt
+    ensures { result ≡ halt_under name fault }
 {
     match fault {
-        Fault::Stopped(stop) => CheckFault::Refused {
-            name,
-            reason: reason(stop),
-        },
-        Fault::Memory => CheckFault::Memory,
+        Fault::Stopped(stop) => Halt::Refused(Refusal { name, stop }),
+        Fault::Memory => Halt::Memory,
     }
 }
 
 /// What a step answers, at which the resource has this name.
-fn under<T: Drop>(name: Option<Text>, answer: Result<T, Fault>) -> Result<T, CheckFault>
-    ensures answers { (step : Result T StopAt) → Tells answer step → Answers result (under name step) }
+fn under<T: Drop>(name: Option<Text>, answer: Result<T, Fault>) -> Result<T, Halt>
+    ensures answers { (step : Result T StopAt) → Tells answer step → Gives result (under name step) }
     ensures given { IfOk result (λ value. answer ≡ Ok value) }
 {
     match answer {
         Ok(value) => Ok(value),
-        Err(fault) => Err(fault_under(name, fault)),
+        Err(fault) => Err(halt_under(name, fault)),
+    }
+}
+
+/// A refusal with its reason alone.
+fn fault_of(halt: Halt) -> CheckFault
+    ensures { result ≡ fault_of halt }
+{
+    match halt {
+        Halt::Refused(Refusal { name, stop }) => CheckFault::Refused {
+            name,
+            reason: reason(stop),
+        },
+        Halt::Memory => CheckFault::Memory,
+    }
+}
+
+/// An answer with the reason of a refusal alone.
+fn reasoned<T: Drop>(answer: Result<T, Halt>) -> Result<T, CheckFault>
+    ensures answers { (step : Result T Stopping) → Gives answer step → Answers result step }
+    ensures given { IfOk result (λ value. answer ≡ Ok value) }
+{
+    match answer {
+        Ok(value) => Ok(value),
+        Err(halt) => Err(fault_of(halt)),
     }
 }
 
@@ -122,9 +144,9 @@ fn name_of(alloc: Global, given: Option<Text>, raw: &Raw) -> Result<Text, Fault>
 
 /// A resource that is read, with its name.
 #[tactic(auto, unfolding(crate::specs::Resources::found_of))]
-fn found(alloc: Global, kind: Kind, any: &AnyValue) -> Result<Found, CheckFault>
+fn found(alloc: Global, kind: Kind, any: &AnyValue) -> Result<Found, Halt>
     requires { length any.now.value < 2 ^ 32 }
-    ensures value { Answers result (found_of kind any.now) }
+    ensures value { Gives result (found_of kind any.now) }
     ensures name { IfOk result (λ found. found.name ≢ []) }
     ensures kind { IfOk result (λ found. raw_kind found.raw ≡ kind) }
 {
@@ -180,9 +202,9 @@ fn checked<P: Patterns>(
     any: &AnyValue,
     asked: &mut Asked,
     patterns: &mut P,
-) -> Result<Checked, CheckFault>
+) -> Result<Checked, Halt>
     requires { length any.now.value < 2 ^ 32 }
-    ensures value { AnswersOver asked.new result (λ refuses. check_of refuses kind any.now) }
+    ensures value { GivesOver asked.new result (λ refuses. check_of refuses kind any.now) }
     ensures asked { Asks asked.old asked.new (P.refused patterns.old) (P.refused patterns.new) }
     ensures name { IfOk result (λ checked. checked.name ≢ []) }
     ensures lawful { IfOk result (λ checked. IsLawfulValue checked.value) }
@@ -193,6 +215,28 @@ fn checked<P: Patterns>(
     let value = value(alloc, asked, patterns, &name, &raw);
     let value = under(Some(shown), value)?;
     Ok(Checked { name, value })
+}
+
+/// The checked value of a resource of the kind, or the step at which its checks stop, under its name where one is
+/// known; where they stop at a pattern, with its text. All else is as with `check`.
+pub fn check_or_halt<P: Patterns>(
+    alloc: Global,
+    kind: Kind,
+    any: &AnyValue,
+    asked: &mut Asked,
+    patterns: &mut P,
+) -> Result<Checked, Halt>
+    requires { length any.now.value < 2 ^ 32 }
+    ensures refused { Gives result (check_of (refusing asked.new) kind any.now) }
+    ensures later { GivesOver asked.new result (λ refuses. check_of refuses kind any.now) }
+    ensures asked { Asks asked.old asked.new (P.refused patterns.old) (P.refused patterns.new) }
+    ensures name { IfOk result (λ checked. checked.name ≢ []) }
+    ensures lawful { IfOk result (λ checked. IsLawfulValue checked.value) }
+    ensures kind { IfOk result (λ checked. kind_of checked.value ≡ kind) }
+{
+    let answer = checked(alloc, kind, any, asked, patterns);
+    asked.agree();
+    answer
 }
 
 /// The checked value of a resource of the kind, or the first reason against it, under its name where one is
@@ -217,7 +261,6 @@ pub fn check<P: Patterns>(
     ensures lawful { IfOk result (λ checked. IsLawfulValue checked.value) }
     ensures kind { IfOk result (λ checked. kind_of checked.value ≡ kind) }
 {
-    let answer = checked(alloc, kind, any, asked, patterns);
-    asked.agree();
-    answer
+    let answer = check_or_halt(alloc, kind, any, asked, patterns);
+    reasoned(answer)
 }

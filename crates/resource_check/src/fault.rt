@@ -62,6 +62,26 @@ pub struct Refusal {
     pub stop: Stop,
 }
 
+/// Why a resource gives no value.
+#[derive(Drop)]
+pub enum Halt {
+    /// It is refused.
+    Refused(Refusal),
+    /// There was no memory.
+    Memory,
+}
+
+impl From<Memory> for Halt {
+    ghost use Rattle.std.specs.Prelude.{◌≡◌};
+    ghost use Rattle.resource_check.specs.declared.fault.Halt.TheVariants as variant;
+
+    ghost from_gives = { λ _ halt. halt ≡ variant.Memory };
+
+    fn from(_: Memory) -> Halt {
+        Halt::Memory
+    }
+}
+
 /// Why a resource isn't accepted.
 #[derive(Debug, Drop, PartialEq, Eq)]
 pub enum CheckFault {
@@ -69,15 +89,4 @@ pub enum CheckFault {
     Refused { name: Option<Text>, reason: Reason },
     /// There was no memory.
     Memory,
-}
-
-impl From<Memory> for CheckFault {
-    ghost use Rattle.std.specs.Prelude.{◌≡◌};
-    ghost use Rattle.resource_check.specs.declared.fault.CheckFault.TheVariants as variant;
-
-    ghost from_gives = { λ _ fault. fault ≡ variant.Memory };
-
-    fn from(_: Memory) -> CheckFault {
-        CheckFault::Memory
-    }
 }

@@ -21,8 +21,8 @@ mod sources;
 pub mod steps;
 
 pub use asked::Asked;
-pub use checks::check;
-pub use fault::{CheckFault, Fault, Refusal, Stop};
+pub use checks::{check, check_or_halt};
+pub use fault::{CheckFault, Fault, Halt, Refusal, Stop};
 pub use raw::{Found, Raw, read_raw};
 pub use resource::Checked;
 
