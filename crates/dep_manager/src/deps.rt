@@ -126,6 +126,32 @@ fn made<L: Ledger>(
     })
 }
 
+/// What is reached, awaited and configured by what the cache knows, where these are the clusters that calls
+/// hold or have pinned. The cache goes on watching what it watches.
+pub fn assembled<L: Ledger>(
+    alloc: Global,
+    boot: &Bootstrap,
+    target: &Target,
+    references: &[Text],
+    cache: &Cache,
+    steps: &mut Steps<L>,
+) -> Result<Outcome, Memory>
+    requires { target.now.key.kind ≡ ListenerKind }
+    ensures reached { IfOk result (λ o. o.reached ≡ reach (resources target.now boot.now.authorities cache.now) references.now) }
+    ensures missing { IfOk result (λ o. o.missing ≡ missing (fate_of cache.now) o.reached) }
+    ensures config { IfOk result (λ o. o.config ≡ config_where o.missing (resources target.now boot.now.authorities cache.now) references.now) }
+    ensures whole { IfOk result (λ o. IsSome o.config ↔ IsNone o.missing) }
+    ensures lawful { IfOk result (λ o. IfSome o.config IsLawfulConfig) }
+{
+    let sight = Sight {
+        alloc,
+        target,
+        boot,
+        cache,
+    };
+    made(sight, references, steps)
+}
+
 impl Deps {
     /// A manager for the listener of this target, which has reached nothing yet.
     pub fn new(alloc: Global, target: Target) -> Result<Deps, Memory>

@@ -12,7 +12,7 @@ mod sight;
 mod table;
 mod watching;
 
-pub use deps::{Deps, Outcome};
+pub use deps::{Deps, Outcome, assembled};
 pub use laws::{fates_of_reached_keys_decide, reached_by_chains};
 
 #[cfg(test)]
