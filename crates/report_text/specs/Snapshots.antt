@@ -1,0 +1,35 @@
+-- The line of a snapshot.
+use Rattle.std.specs.Prelude.{ℕ, ◌++◌, List, [], Option, Some, None, Result, Ok, Err, codes, flat_map, zip}
+use Rattle.std.specs.Fmt.{decimal}
+use Rattle.xc_base.specs.Reasons.{reason_word}
+use Rattle.xc_base.specs.declared.reason.Reason.{Reason}
+use Rattle.xds_config.specs.declared.config.Front.{Front}
+use Rattle.xds_config.specs.declared.config.ClusterEntry.{ClusterEntry}
+use Rattle.cluster_tree.specs.declared.snapshot.Snapshot.{Snapshot}
+use Rattle.cluster_tree.specs.declared.snapshot.TreeView.{TreeView}
+use Rattle.report_text.specs.Trees.{tree_text}
+use Rattle.report_text.specs.Words.{escaped}
+
+abbrev pub front_words : Front → List ℕ
+front_words front = escaped front.listener ++ codes "," ++ escaped front.routes.name ++ codes "," ++ decimal front.host
+
+abbrev pub front_text : Result Front Reason → List ℕ
+front_text (Ok front) = front_words front
+front_text (Err reason) = codes "!" ++ reason_word reason
+
+-- a cluster with its trees
+unfoldable pub cluster_text : ClusterEntry → Result TreeView Reason → List ℕ
+cluster_text cluster tree = codes " " ++ escaped cluster.name ++ codes "=" ++ tree_text tree
+
+-- the clusters of a configuration with their trees, which stand in the same order
+unfoldable pub clusters_text : List ClusterEntry → List (Result TreeView Reason) → List ℕ
+clusters_text clusters trees = flat_map (λ c. cluster_text c.0 c.1) (zip clusters trees)
+
+unfoldable pub snapshot_line : Snapshot → List ℕ
+snapshot_line s =
+    codes "  snap " ++ decimal s.number ++ codes " front=" ++ front_text s.config.front ++ clusters_text s.config.clusters s.trees ++ codes "\n"
+
+-- the line of a snapshot, if there is one
+abbrev pub snapshot_lines : Option Snapshot → List ℕ
+snapshot_lines None = []
+snapshot_lines (Some s) = snapshot_line s

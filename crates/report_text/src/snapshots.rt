@@ -1,0 +1,83 @@
+//! The line of a snapshot.
+ghost use Rattle.std.specs.Prelude.{◌≡◌, IfOk, option_copied, string_bytes};
+ghost use Rattle.report_text.specs.Snapshots.{cluster_text, clusters_text, front_text, front_words, snapshot_line, snapshot_lines};
+
+use crate::trees::tree_text;
+use crate::words::escaped;
+use cluster_tree::{Snapshot, TreeView};
+use std::alloc::Global;
+use xc_base::{Memory, Reason, Shared};
+use xds_config::{ClusterEntry, Front};
+
+fn front_words(alloc: Global, front: &Front) -> Result<String, Memory>
+    ensures { IfOk result (λ s. string_bytes s ≡ front_words front.now) }
+{
+    let listener = escaped(alloc, &front.listener)?;
+    let routes = escaped(alloc, &front.routes.get().name)?;
+    let host = front.host;
+    let text = format!(in alloc; "{listener},{routes},{host}")?;
+    Ok(text)
+}
+
+fn front_text(alloc: Global, front: &Result<Front, Reason>) -> Result<String, Memory>
+    ensures { IfOk result (λ s. string_bytes s ≡ front_text front.now) }
+{
+    match front {
+        Ok(front) => front_words(alloc, front),
+        Err(reason) => format!(in alloc; "!{reason}"),
+    }
+}
+
+// A cluster with its trees.
+#[tactic(auto, unfolding(crate::specs::Snapshots::cluster_text))]
+fn cluster_text(
+    alloc: Global,
+    cluster: &ClusterEntry,
+    tree: &Result<Shared<TreeView>, Reason>,
+) -> Result<String, Memory>
+    ensures { IfOk result (λ s. string_bytes s ≡ cluster_text cluster.now tree.now) }
+{
+    let name = escaped(alloc, &cluster.name)?;
+    let tree = tree_text(alloc, tree)?;
+    let text = format!(in alloc; " {name}={tree}")?;
+    Ok(text)
+}
+
+// The clusters of a configuration with their trees.
+#[tactic(auto, unfolding(crate::specs::Snapshots::clusters_text))]
+fn clusters_text(
+    alloc: Global,
+    clusters: &[Shared<ClusterEntry>],
+    trees: &[Result<Shared<TreeView>, Reason>],
+) -> Result<String, Memory>
+    ensures { IfOk result (λ s. string_bytes s ≡ clusters_text clusters.now trees.now) }
+{
+    let mut out = String::new(alloc);
+    for (cluster, tree) in clusters.iter().zip(trees.iter()) {
+        out.push_str(cluster_text(alloc, cluster.get(), tree)?.as_str())?;
+    }
+    Ok(out)
+}
+
+/// The line of a snapshot.
+#[tactic(auto, unfolding(crate::specs::Snapshots::snapshot_line))]
+pub fn snapshot_line(alloc: Global, snapshot: &Snapshot) -> Result<String, Memory>
+    ensures { IfOk result (λ s. string_bytes s ≡ snapshot_line snapshot.now) }
+{
+    let number = snapshot.number;
+    let config = snapshot.config.get();
+    let front = front_text(alloc, &config.front)?;
+    let clusters = clusters_text(alloc, config.clusters.as_slice(), snapshot.trees.as_slice())?;
+    let text = format!(in alloc; "  snap {number} front={front}{clusters}\n")?;
+    Ok(text)
+}
+
+/// The line of a snapshot, if there is one.
+pub fn snapshot_lines(alloc: Global, snapshot: Option<&Snapshot>) -> Result<String, Memory>
+    ensures { IfOk result (λ s. string_bytes s ≡ snapshot_lines (option_copied snapshot.entry)) }
+{
+    match snapshot {
+        Some(snapshot) => snapshot_line(alloc, snapshot),
+        None => Ok(String::new(alloc)),
+    }
+}
