@@ -1,5 +1,5 @@
 -- The line of a snapshot.
-use Rattle.std.specs.Prelude.{ℕ, ◌++◌, List, [], Option, Some, None, Result, Ok, Err, codes, flat_map, zip}
+use Rattle.std.specs.Prelude.{ℕ, ◌+◌, ◌++◌, List, [], ◌∷◌, Option, Some, None, Result, Ok, Err, codes, slice_get}
 use Rattle.std.specs.Fmt.{decimal}
 use Rattle.xc_base.specs.Reasons.{reason_word}
 use Rattle.xc_base.specs.declared.reason.Reason.{Reason}
@@ -17,17 +17,24 @@ abbrev pub front_text : Result Front Reason → List ℕ
 front_text (Ok front) = front_words front
 front_text (Err reason) = codes "!" ++ reason_word reason
 
--- a cluster with its trees
-unfoldable pub cluster_text : ClusterEntry → Result TreeView Reason → List ℕ
-cluster_text cluster tree = codes " " ++ escaped cluster.name ++ codes "=" ++ tree_text tree
+-- trees that aren't there have no text
+abbrev pub found_tree_text : Option (Result TreeView Reason) → List ℕ
+found_tree_text None = []
+found_tree_text (Some tree) = tree_text tree
 
--- the clusters of a configuration with their trees, which stand in the same order
-unfoldable pub clusters_text : List ClusterEntry → List (Result TreeView Reason) → List ℕ
-clusters_text clusters trees = flat_map (λ c. cluster_text c.0 c.1) (zip clusters trees)
+-- a cluster with its trees
+unfoldable pub cluster_text : ClusterEntry → Option (Result TreeView Reason) → List ℕ
+cluster_text cluster tree = codes " " ++ escaped cluster.name ++ codes "=" ++ found_tree_text tree
+
+-- the clusters from this place on, each with the trees of its place
+unfoldable pub clusters_from : List (Result TreeView Reason) → ℕ → List ClusterEntry → List ℕ
+clusters_from trees place [] = []
+clusters_from trees place (cluster ∷ clusters) =
+    cluster_text cluster (slice_get trees place) ++ clusters_from trees (place + 1) clusters
 
 unfoldable pub snapshot_line : Snapshot → List ℕ
 snapshot_line s =
-    codes "  snap " ++ decimal s.number ++ codes " front=" ++ front_text s.config.front ++ clusters_text s.config.clusters s.trees ++ codes "\n"
+    codes "  snap " ++ decimal s.number ++ codes " front=" ++ front_text s.config.front ++ clusters_from s.trees 0 s.config.clusters ++ codes "\n"
 
 -- the line of a snapshot, if there is one
 abbrev pub snapshot_lines : Option Snapshot → List ℕ

@@ -1,6 +1,6 @@
 //! The line of a snapshot.
 ghost use Rattle.std.specs.Prelude.{◌≡◌, IfOk, option_copied, string_bytes};
-ghost use Rattle.report_text.specs.Snapshots.{cluster_text, clusters_text, front_text, front_words, snapshot_line, snapshot_lines};
+ghost use Rattle.report_text.specs.Snapshots.{cluster_text, clusters_from, found_tree_text, front_text, front_words, snapshot_line, snapshot_lines};
 
 use crate::trees::tree_text;
 use crate::words::escaped;
@@ -28,33 +28,46 @@ fn front_text(alloc: Global, front: &Result<Front, Reason>) -> Result<String, Me
     }
 }
 
+// The text of trees, of which there may be none.
+fn found_tree_text(
+    alloc: Global,
+    tree: Option<&Result<Shared<TreeView>, Reason>>,
+) -> Result<String, Memory>
+    ensures { IfOk result (λ s. string_bytes s ≡ found_tree_text (option_copied tree.entry)) }
+{
+    match tree {
+        Some(tree) => tree_text(alloc, tree),
+        None => Ok(String::new(alloc)),
+    }
+}
+
 // A cluster with its trees.
 #[tactic(auto, unfolding(crate::specs::Snapshots::cluster_text))]
 fn cluster_text(
     alloc: Global,
     cluster: &ClusterEntry,
-    tree: &Result<Shared<TreeView>, Reason>,
+    tree: Option<&Result<Shared<TreeView>, Reason>>,
 ) -> Result<String, Memory>
-    ensures { IfOk result (λ s. string_bytes s ≡ cluster_text cluster.now tree.now) }
+    ensures { IfOk result (λ s. string_bytes s ≡ cluster_text cluster.now (option_copied tree.entry)) }
 {
     let name = escaped(alloc, &cluster.name)?;
-    let tree = tree_text(alloc, tree)?;
+    let tree = found_tree_text(alloc, tree)?;
     let text = format!(in alloc; " {name}={tree}")?;
     Ok(text)
 }
 
 // The clusters of a configuration with their trees.
-#[tactic(auto, unfolding(crate::specs::Snapshots::clusters_text))]
+#[tactic(auto, unfolding(crate::specs::Snapshots::clusters_from))]
 fn clusters_text(
     alloc: Global,
     clusters: &[Shared<ClusterEntry>],
     trees: &[Result<Shared<TreeView>, Reason>],
 ) -> Result<String, Memory>
-    ensures { IfOk result (λ s. string_bytes s ≡ clusters_text clusters.now trees.now) }
+    ensures { IfOk result (λ s. string_bytes s ≡ clusters_from trees.now 0 clusters.now) }
 {
     let mut out = String::new(alloc);
-    for (cluster, tree) in clusters.iter().zip(trees.iter()) {
-        out.push_str(cluster_text(alloc, cluster.get(), tree)?.as_str())?;
+    for (place, cluster) in clusters.iter().enumerate() {
+        out.push_str(cluster_text(alloc, cluster.get(), trees.get(place))?.as_str())?;
     }
     Ok(out)
 }

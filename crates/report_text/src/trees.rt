@@ -85,13 +85,25 @@ fn near_place(children: &[NamedChild]) -> Option<usize>
     children.iter().position(|child| is_near(child.view))
 }
 
-// The first child that is there and CONNECTING, else the last.
-fn trying_place(children: &[NamedChild]) -> usize
+// The first child that is there and CONNECTING.
+fn trying_place(children: &[NamedChild]) -> Option<usize>
+    ensures { result ≡ position (λ c. is_trying c.view) children.now }
+{
+    children.iter().position(|child| is_trying(child.view))
+}
+
+fn last_place(children: &[NamedChild]) -> usize
+    ensures { result ≡ length children.now - 1 }
+{
+    children.len().saturating_sub(1)
+}
+
+fn trying_or_last(children: &[NamedChild]) -> usize
     ensures { result ≡ unwrap_or (position (λ c. is_trying c.view) children.now) (length children.now - 1) }
 {
-    match children.iter().position(|child| is_trying(child.view)) {
+    match trying_place(children) {
         Some(place) => place,
-        None => children.len().saturating_sub(1),
+        None => last_place(children),
     }
 }
 
@@ -101,7 +113,7 @@ fn waiting_place(children: &[NamedChild]) -> usize
 {
     match near_place(children) {
         Some(place) => place,
-        None => trying_place(children),
+        None => trying_or_last(children),
     }
 }
 
