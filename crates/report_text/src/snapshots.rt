@@ -1,5 +1,5 @@
 //! The line of a snapshot.
-ghost use Rattle.std.specs.Prelude.{◌≡◌, IfOk, option_copied, string_bytes};
+ghost use Rattle.std.specs.Prelude.{◌≡◌, IfOk, option_copied, slice_get, string_bytes};
 ghost use Rattle.report_text.specs.Snapshots.{cluster_text, clusters_from, found_tree_text, front_text, front_words, snapshot_line, snapshot_lines};
 
 use crate::trees::tree_text;
@@ -41,6 +41,16 @@ fn found_tree_text(
     }
 }
 
+// The trees at a place.
+fn tree_at(
+    trees: &[Result<Shared<TreeView>, Reason>],
+    place: usize,
+) -> Option<&Result<Shared<TreeView>, Reason>>
+    ensures { option_copied result ≡ slice_get trees.now place }
+{
+    trees.get(place)
+}
+
 // A cluster with its trees.
 #[tactic(auto, unfolding(crate::specs::Snapshots::cluster_text))]
 fn cluster_text(
@@ -67,7 +77,7 @@ fn clusters_text(
 {
     let mut out = String::new(alloc);
     for (place, cluster) in clusters.iter().enumerate() {
-        out.push_str(cluster_text(alloc, cluster.get(), trees.get(place))?.as_str())?;
+        out.push_str(cluster_text(alloc, cluster.get(), tree_at(trees, place))?.as_str())?;
     }
     Ok(out)
 }
