@@ -1,5 +1,6 @@
 -- What is given to the program: payloads and resources that aren't too long to be read.
 use Rattle.std.specs.Prelude.{◌≡◌, ◌<◌, ◌^◌, List, [], ◌∷◌, map, length}
+use Rattle.std.specs.List.{filter_map}
 use Rattle.proto_discovery.specs.declared.any.AnyValue.{AnyValue}
 use Rattle.call_journal.specs.declared.event.DriverEvent.{DriverEvent}
 use Rattle.call_journal.specs.declared.entry.What.{What}
@@ -13,7 +14,7 @@ use Rattle.dep_manager.specs.Orders.{Name}
 use Rattle.xds_history.specs.declared.responses.Part.{Part}
 use Rattle.xds_history.specs.declared.responses.Told.{Told}
 use Rattle.xds_history.specs.Words.{among}
-use Rattle.xds_history.specs.Responses.{Came, answered, part_of, told_apart}
+use Rattle.xds_history.specs.Responses.{Came, answered, once, part_of, refused_text, told_apart}
 use Rattle.plain_history.specs.declared.given.Channel.{Channel}
 use Rattle.plain_history.specs.declared.given.Heard.{Heard}
 
@@ -55,3 +56,7 @@ parts_where refused kind resources = told_apart [] (map part_of (map (check_of (
 abbrev pub told_where : List Name → Authority → Kind → Response → Told
 told_where refused a kind r =
     record { authority = a; kind = kind; version = r.version; nonce = r.nonce; resources = r.resources; parts = parts_where refused kind r.resources }
+
+-- the pattern texts at which the checks of the resources stop then, each once
+abbrev pub stops_where : List Name → Kind → List AnyValue → List Name
+stops_where refused kind resources = once [] (filter_map refused_text (map (check_of (λ text. among text refused) kind) resources))

@@ -3,22 +3,34 @@ ghost use Rattle.std.specs.Prelude.{IfOk};
 
 use crate::clock::{now, state};
 use crate::fates::judged;
+use crate::given::Channel;
+use crate::hearing::hear;
 use crate::refusals::error_text;
 use crate::streams::is_up;
 use ads_stream::Verdict;
-use call_journal::{BytesHow, DriverEvent, DriverReply, Entry, What};
+use call_journal::{BytesHow, DriverEvent, DriverReply, Entry, Sent, What};
+use header_match::RegexPatterns;
+use proto_discovery::{ROUTE_URL, Request};
+use proto_wire::{put_bytes, put_text};
 use std::alloc::Global;
 use std::test::Fail;
 use xc_base::addresses::reading::address;
-use xc_base::{Authority, List, Memory, Reason, Shared, State, Text, Time};
+use xc_base::{Authority, Home, Key, Kind, List, Memory, Node, Reason, Shared, State, Text, Time};
+use xds_bootstrap::Bootstrap;
 use xds_cache::Fate;
 use xds_config::{ClusterValue, Shape, Value};
 use xds_history::{Mark, Part};
+use xds_name::Target;
 
 fn entry(alloc: Global, event: DriverEvent) -> Result<Shared<Entry>, Memory> {
+    sending(alloc, event, List::new(alloc))
+}
+
+// The entry of an event after which these requests were sent.
+fn sending(alloc: Global, event: DriverEvent, sent: List<Sent>) -> Result<Shared<Entry>, Memory> {
     let reply = DriverReply {
         verdict: Verdict::Done,
-        sent: List::new(alloc),
+        sent,
         missing: None,
         snapshot: None,
         refused: List::new(alloc),
@@ -168,5 +180,106 @@ fn refusals_are_told(rt: HostRuntime) -> Result<(), Fail> {
     let parts = vec![in alloc; valid, named, nameless]?;
     let text = error_text(alloc, &parts)?;
     assert!(rt; text.as_str() == "b: lb-policy; resource 2: unreadable");
+    Ok(())
+}
+
+fn channel(alloc: Global) -> Result<Channel, Memory> {
+    let node = Node {
+        id: Text::new(),
+        cluster: Text::new(),
+        region: Text::new(),
+        zone: Text::new(),
+        sub_zone: Text::new(),
+    };
+    let key = Key {
+        kind: Kind::Listener,
+        name: Text::from_str(alloc, "l")?,
+        home: Home::At(Authority::DEFAULT),
+    };
+    Ok(Channel {
+        boot: Bootstrap {
+            authorities: List::new(alloc),
+            node,
+        },
+        target: Target {
+            key,
+            host: Text::from_str(alloc, "l")?,
+        },
+    })
+}
+
+// A stream that was opened, on which routes were asked for.
+fn asked_for_routes(alloc: Global) -> Result<Vec<Shared<Entry>>, Memory> {
+    let authority = Authority::DEFAULT;
+    let request = Request {
+        kind: Kind::Route,
+        version: Text::new(),
+        nonce: Text::new(),
+        names: List::new(alloc),
+        node: None,
+        error: None,
+    };
+    let mut sent = List::new(alloc);
+    sent.push(Sent { authority, request })?;
+    let mut past = Vec::new(alloc);
+    past.push(sending(alloc, DriverEvent::Opened(authority), sent)?)?;
+    Ok(past)
+}
+
+// A message with one field, which holds these bytes.
+fn around(alloc: Global, number: u32, bytes: &List<u8>) -> Result<List<u8>, Memory> {
+    let mut out = List::new(alloc);
+    put_bytes(alloc, &mut out, number, bytes.as_slice())?;
+    Ok(out)
+}
+
+// A route configuration with one route, whose path has to be of a pattern.
+fn routes(alloc: Global, name: &str, pattern: &str) -> Result<List<u8>, Memory> {
+    let mut regex = List::new(alloc);
+    put_text(alloc, &mut regex, 2, pattern)?;
+    let test = around(alloc, 10, &regex)?;
+    let route = around(alloc, 1, &test)?;
+    let host = around(alloc, 3, &route)?;
+    let mut out = List::new(alloc);
+    put_text(alloc, &mut out, 1, name)?;
+    put_bytes(alloc, &mut out, 2, host.as_slice())?;
+    Ok(out)
+}
+
+// A response with these route configurations.
+fn response(alloc: Global, rows: &[(&str, &str)]) -> Result<List<u8>, Memory> {
+    let mut out = List::new(alloc);
+    for row in rows {
+        let (name, pattern) = *row;
+        let resource = routes(alloc, name, pattern)?;
+        let mut any = List::new(alloc);
+        put_text(alloc, &mut any, 1, ROUTE_URL)?;
+        put_bytes(alloc, &mut any, 2, resource.as_slice())?;
+        put_bytes(alloc, &mut out, 2, any.as_slice())?;
+    }
+    put_text(alloc, &mut out, 4, ROUTE_URL)?;
+    Ok(out)
+}
+
+#[test]
+fn texts_of_refused_patterns_are_heard(rt: HostRuntime) -> Result<(), Fail> {
+    let alloc = rt.alloc();
+    let channel = channel(alloc)?;
+    let past = asked_for_routes(alloc)?;
+    let payload = response(alloc, &[("r", "("), ("s", "["), ("t", "a"), ("u", "(")])?;
+    if payload.len() >= 1 << 32 {
+        return Err(Fail::from("a response that can be read"));
+    }
+    let event = DriverEvent::Response {
+        authority: Authority::DEFAULT,
+        payload: Shared::new(alloc, payload)?,
+    };
+    let mut patterns = RegexPatterns::new(alloc);
+    let heard = hear(alloc, &channel, &past, event, &mut patterns)?;
+    assert!(rt; heard.verdict == Verdict::Nack(Kind::Route));
+    assert!(rt; heard.told.is_some());
+    let refused = heard.refused.as_slice();
+    assert!(rt; refused.len() == 2);
+    assert!(rt; refused[0].as_str() == "(" && refused[1].as_str() == "[");
     Ok(())
 }
