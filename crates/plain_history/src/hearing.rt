@@ -149,7 +149,7 @@ fn judge<P: Patterns>(
 
 /// Hears an event after these entries: its verdict, the pattern texts that `patterns` refuses at its checks,
 /// and what it tells. Memory also comes where a resource is too long to be read, or where the texts that were
-/// refused aren't those at which the checks stopped, each once, which never happens.
+/// refused aren't those at which the checks stopped, each once.
 #[tactic(auto, using(crate::proofs::NameLemmas::names_same))]
 pub fn hear<P: Patterns>(
     alloc: Global,

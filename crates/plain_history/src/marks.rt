@@ -185,8 +185,8 @@ pub fn mark(
     }
 }
 
-// A copy of the marks.
-fn copied(alloc: Global, marks: &[Mark]) -> Result<List<Mark>, Memory>
+/// A copy of the marks.
+pub fn copied(alloc: Global, marks: &[Mark]) -> Result<List<Mark>, Memory>
     ensures { IfOk result (λ copy. copy ≡ marks.now) }
 {
     match marks.split_first() {

@@ -56,8 +56,8 @@ fn copied_life(alloc: Global, life: &[Glimpse]) -> Result<List<Glimpse>, Memory>
     with_first(copied_glimpse(alloc, glimpse)?, copied_life(alloc, before)?)
 }
 
-// A copy of a tree.
-fn copied_tree(alloc: Global, tree: &Tree) -> Result<Tree, Memory>
+/// A copy of a tree.
+pub fn copied_tree(alloc: Global, tree: &Tree) -> Result<Tree, Memory>
     ensures { IfOk result (λ copy. copy ≡ tree.now) }
 {
     Ok(Tree {

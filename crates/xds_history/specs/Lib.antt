@@ -13,4 +13,5 @@ pub mod Picks
 pub mod Pages
 pub mod Right
 pub mod Legal
+pub mod Report
 pub mod Laws
