@@ -46,7 +46,7 @@ apart_lawful kind before (part ∷ parts) lawful =
 
 -- ---- what is delivered
 
-abbrev IsLawfulGiven : Kind → Result Value Reason → Type 0
+abbrev pub IsLawfulGiven : Kind → Result Value Reason → Type 0
 IsLawfulGiven kind given = IfOk given (IsLawfulOf kind)
 
 first_lawful : (kind : Kind) (test : Bool) (part : Part) (more : Option Part) → IsLawfulPart kind part → IfSome (option_map (λ p. p.result) more) (IsLawfulGiven kind)
@@ -140,9 +140,14 @@ all_marked_lawful s c past ps now (w ∷ watched) told lawful = (with_mark_lawfu
 pub marked_lawful : (s : Setting) (c : Came) (past : List Entry) (ps : List Page) (now : Time) → IfSome (answered s c) IsLawfulTold → AreLawfulWatched (watched_now ps) → AreLawfulWatched (marked s c past ps now)
 marked_lawful s c past ps now told lawful = all_marked_lawful s c past ps now (watched_now ps) told lawful
 
--- what was heard is the answered response
+-- what was heard tells lawful resources
 pub heard_lawful : (channel : Channel) (heard : Heard) → IsHeard channel heard → IsLawfulHeard heard → IfSome (answered (setting_in channel) (came_of heard)) IsLawfulTold
 heard_lawful channel heard is lawful = subst (λ told. IfSome told IsLawfulTold) is lawful
+
+-- and what came for the watched keys up to what was heard is lawful, where what came before is
+pub marked_heard_lawful : (channel : Channel) (heard : Heard) (past : List Entry) (ps : List Page) (now : Time) → IsHeard channel heard → IsLawfulHeard heard → AreLawfulWatched (watched_now ps)
+    → AreLawfulWatched (marked (setting_in channel) (came_of heard) past ps now)
+marked_heard_lawful channel heard past ps now is lawful before = marked_lawful (setting_in channel) (came_of heard) past ps now (heard_lawful channel heard is lawful) before
 
 -- ---- watching
 

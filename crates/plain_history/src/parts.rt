@@ -36,7 +36,7 @@ pub struct PartChecks {
     pub stops: List<Text>,
 }
 
-// What the check of a resource tells that is refused.
+// What the check of a refused resource tells.
 fn refused_part(refusal: Refusal) -> PartCheck
     ensures part { result.part ≡ part_of (Err refusal) }
     ensures stop { result.stop ≡ refused_text (Err refusal) }
@@ -183,7 +183,7 @@ fn with_check(first: PartCheck, rest: PartChecks) -> Result<PartChecks, Memory>
 }
 
 // What the checks of the resources tell.
-#[tactic(auto, using(resource_check::proofs::AskingLemmas::agrees_before, resource_check::proofs::AskingLemmas::asks_nothing))]
+#[tactic(auto, using(resource_check::proofs::AskingLemmas::asks_nothing))]
 fn checked_parts<P: Patterns>(
     alloc: Global,
     kind: Kind,
@@ -210,7 +210,7 @@ fn checked_parts<P: Patterns>(
 
 /// The resources of a response, as their checks tell where the texts that were asked by then are refused, and
 /// the texts at which the checks stop then, each once.
-#[tactic(auto, using(crate::proofs::AskedLemmas::agrees_among, crate::proofs::LawfulLemmas::apart_lawful))]
+#[tactic(auto, using(crate::proofs::LawfulLemmas::apart_lawful))]
 pub fn parts<P: Patterns>(
     alloc: Global,
     kind: Kind,
