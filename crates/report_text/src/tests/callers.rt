@@ -1,8 +1,8 @@
 //! The lines of callers' entries.
 use crate::tests::made::{
-    NONE, READY, call, caller, held_text, pick, plain_text, published_text, snapshot_of,
+    NONE, READY, call, caller, held_text, is_line, pick, plain_text, published_text, snapshot_of,
 };
-use call_journal::{CallerEvent, CallerReply};
+use call_journal::{CallerEvent, CallerReply, Entry};
 use cluster_tree::Snapshot;
 use route_match::RouteAnswer;
 use std::alloc::Global;
@@ -11,44 +11,14 @@ use xc_base::{CallId, Reason};
 
 const CART: &str = "xdstp://a.example/envoy.config.cluster.v3.Cluster/cart";
 
-fn web(alloc: Global) -> Result<Snapshot, Fail> {
-    snapshot_of(alloc, 2, "web", &[READY], 0)
+fn cart(alloc: Global) -> Result<Snapshot, Fail> {
+    snapshot_of(alloc, 2, CART, &[READY, NONE], 0)
 }
 
-#[test]
-fn a_call_takes_its_path(rt: HostRuntime) -> Result<(), Fail> {
-    let alloc = rt.alloc();
-    let snapshot = web(alloc)?;
-    let pin = caller(
-        10,
-        CallerEvent::Pin(call(alloc, 0)?),
-        CallerReply::Pinned(2),
-    );
-    let pin = published_text(alloc, &snapshot, 9, &pin)?;
-    assert_eq!(rt; pin.as_str(), "9 10 c1 pin 0 at 2\n");
-    let routed = CallerReply::Routed {
-        snapshot: 2,
-        answer: RouteAnswer::To {
-            route: 0,
-            choice: 0,
-        },
-    };
-    let hold = caller(10, CallerEvent::Hold(call(alloc, 0)?), routed);
-    let hold = published_text(alloc, &snapshot, 10, &hold)?;
-    assert_eq!(rt; hold.as_str(), "10 10 c1 hold 0 to 0 web at 2\n");
-    let pick = held_text(
-        alloc,
-        &snapshot,
-        "web",
-        11,
-        &caller(11, pick(0), endpoint(0, 0)),
-    )?;
-    let line = "11 11 c1 pick 0 endpoint 10.0.0.1:80 at 2 child 0 locality 0 place 0\n";
-    assert_eq!(rt; pick.as_str(), line);
-    let commit = caller(12, CallerEvent::Commit(CallId(0)), CallerReply::Released);
-    let commit = plain_text(alloc, 12, &commit)?;
-    assert_eq!(rt; commit.as_str(), "12 12 c1 commit 0 released\n");
-    Ok(())
+// Whether a call that holds the cluster prints so for its pick.
+fn picks(alloc: Global, reply: CallerReply, line: &str) -> Result<bool, Fail> {
+    let text = held_text(alloc, &cart(alloc)?, CART, 15, &caller(14, pick(3), reply))?;
+    Ok(text.as_str().strip_prefix("15 14 c1 pick 3 ") == Some(line))
 }
 
 fn endpoint(locality: u32, place: u32) -> CallerReply {
@@ -60,122 +30,97 @@ fn endpoint(locality: u32, place: u32) -> CallerReply {
     }
 }
 
-fn picked(alloc: Global, reply: CallerReply) -> Result<String, Fail> {
-    let snapshot = snapshot_of(alloc, 2, CART, &[READY, NONE], 0)?;
-    held_text(alloc, &snapshot, CART, 15, &caller(14, pick(3), reply))
+fn drop_by(rule: u32) -> CallerReply {
+    CallerReply::Drop { snapshot: 2, rule }
 }
 
 #[test]
-fn a_pick_has_its_answer(rt: HostRuntime) -> Result<(), Fail> {
+fn a_pick_has_an_endpoint(rt: HostRuntime) -> Result<(), Fail> {
     let alloc = rt.alloc();
-    let first = picked(alloc, endpoint(0, 1))?;
-    let line = "15 14 c1 pick 3 endpoint 10.0.0.2:80 at 2 child 0 locality 0 place 1\n";
-    assert_eq!(rt; first.as_str(), line);
-    let second = picked(alloc, endpoint(2, 0))?;
-    let line = "15 14 c1 pick 3 endpoint 10.0.0.3:80 at 2 child 0 locality 2 place 0\n";
-    assert_eq!(rt; second.as_str(), line);
-    let dropped = picked(
-        alloc,
-        CallerReply::Drop {
-            snapshot: 2,
-            rule: 1,
-        },
-    )?;
-    assert_eq!(rt; dropped.as_str(), "15 14 c1 pick 3 drop shed at 2\n");
-    let second_rule = picked(
-        alloc,
-        CallerReply::Drop {
-            snapshot: 2,
-            rule: 2,
-        },
-    )?;
-    assert_eq!(rt;
-        second_rule.as_str(),
-        "15 14 c1 pick 3 drop too%20much at 2\n"
-    );
-    let queue = picked(alloc, CallerReply::Queue { snapshot: 2 })?;
-    assert_eq!(rt; queue.as_str(), "15 14 c1 pick 3 queue at 2\n");
-    let reason = Reason::Failing;
-    let fail = picked(
-        alloc,
-        CallerReply::Fail {
-            snapshot: 2,
-            reason,
-        },
-    )?;
-    assert_eq!(rt; fail.as_str(), "15 14 c1 pick 3 fail failing at 2\n");
-    let not_held = picked(alloc, CallerReply::NotHeld)?;
-    assert_eq!(rt; not_held.as_str(), "15 14 c1 pick 3 notheld\n");
+    let line = "endpoint 10.0.0.1:80 at 2 child 0 locality 0 place 0\n";
+    assert!(rt; picks(alloc, endpoint(0, 0), line)?);
+    let line = "endpoint 10.0.0.2:80 at 2 child 0 locality 0 place 1\n";
+    assert!(rt; picks(alloc, endpoint(0, 1), line)?);
+    let line = "endpoint 10.0.0.3:80 at 2 child 0 locality 2 place 0\n";
+    assert!(rt; picks(alloc, endpoint(2, 0), line)?);
     Ok(())
 }
 
-fn held(alloc: Global, answer: RouteAnswer) -> Result<String, Fail> {
-    let snapshot = snapshot_of(alloc, 4, CART, &[READY], 0)?;
+#[test]
+fn a_pick_has_no_endpoint(rt: HostRuntime) -> Result<(), Fail> {
+    let alloc = rt.alloc();
+    assert!(rt; picks(alloc, drop_by(1), "drop shed at 2\n")?);
+    assert!(rt; picks(alloc, drop_by(2), "drop too%20much at 2\n")?);
+    assert!(rt; picks(alloc, CallerReply::Queue { snapshot: 2 }, "queue at 2\n")?);
+    let fail = CallerReply::Fail {
+        snapshot: 2,
+        reason: Reason::Failing,
+    };
+    assert!(rt; picks(alloc, fail, "fail failing at 2\n")?);
+    assert!(rt; picks(alloc, CallerReply::NotHeld, "notheld\n")?);
+    Ok(())
+}
+
+#[test]
+fn what_a_picker_lacks_has_no_text(rt: HostRuntime) -> Result<(), Fail> {
+    let alloc = rt.alloc();
+    let line = "endpoint  at 2 child 0 locality 1 place 0\n";
+    assert!(rt; picks(alloc, endpoint(1, 0), line)?);
+    assert!(rt; picks(alloc, drop_by(3), "drop  at 2\n")?);
+    let entry = caller(6, pick(0), endpoint(0, 0));
+    let line = "2 6 c1 pick 0 endpoint  at 2 child 0 locality 0 place 0\n";
+    assert!(rt; is_line(plain_text(alloc, 2, &entry)?, line));
+    Ok(())
+}
+
+// Whether a hold prints so.
+fn holds(alloc: Global, answer: RouteAnswer, line: &str) -> Result<bool, Fail> {
     let reply = CallerReply::Routed {
-        snapshot: 4,
+        snapshot: 2,
         answer,
     };
     let entry = caller(13, CallerEvent::Hold(call(alloc, 7)?), reply);
-    published_text(alloc, &snapshot, 14, &entry)
+    let text = published_text(alloc, &cart(alloc)?, 14, &entry)?;
+    Ok(text.as_str().strip_prefix("14 13 c1 hold 7 ") == Some(line))
+}
+
+fn to(route: u32) -> RouteAnswer {
+    RouteAnswer::To { route, choice: 0 }
 }
 
 #[test]
 fn a_hold_has_its_answer(rt: HostRuntime) -> Result<(), Fail> {
     let alloc = rt.alloc();
-    let to = held(
-        alloc,
-        RouteAnswer::To {
-            route: 0,
-            choice: 0,
-        },
-    )?;
-    let line = "14 13 c1 hold 7 to 0 xdstp://a.example/envoy.config.cluster.v3.Cluster/cart at 4\n";
-    assert_eq!(rt; to.as_str(), line);
-    let no_route = held(alloc, RouteAnswer::NoRoute)?;
-    assert_eq!(rt; no_route.as_str(), "14 13 c1 hold 7 noroute at 4\n");
-    let no_action = held(alloc, RouteAnswer::NoAction { route: 5 })?;
-    assert_eq!(rt; no_action.as_str(), "14 13 c1 hold 7 noaction 5 at 4\n");
-    let reason = Reason::NoHost;
-    let no_front = held(alloc, RouteAnswer::NoFront { reason })?;
-    assert_eq!(rt; no_front.as_str(), "14 13 c1 hold 7 nofront no-host at 4\n");
+    let line = "to 0 xdstp://a.example/envoy.config.cluster.v3.Cluster/cart at 2\n";
+    assert!(rt; holds(alloc, to(0), line)?);
+    assert!(rt; holds(alloc, to(3), "to 3  at 2\n")?);
+    assert!(rt; holds(alloc, RouteAnswer::NoRoute, "noroute at 2\n")?);
+    let no_action = RouteAnswer::NoAction { route: 5 };
+    assert!(rt; holds(alloc, no_action, "noaction 5 at 2\n")?);
+    let no_front = RouteAnswer::NoFront {
+        reason: Reason::NoHost,
+    };
+    assert!(rt; holds(alloc, no_front, "nofront no-host at 2\n")?);
     Ok(())
 }
 
+fn pin(alloc: Global, reply: CallerReply) -> Result<Entry, Fail> {
+    Ok(caller(10, CallerEvent::Pin(call(alloc, 0)?), reply))
+}
+
 #[test]
-fn what_is_not_there_has_no_text(rt: HostRuntime) -> Result<(), Fail> {
+fn a_call_begins_and_ends(rt: HostRuntime) -> Result<(), Fail> {
     let alloc = rt.alloc();
-    let no_snapshot = caller(
-        5,
-        CallerEvent::Pin(call(alloc, 0)?),
-        CallerReply::NoSnapshot,
+    let pinned = plain_text(alloc, 9, &pin(alloc, CallerReply::Pinned(2))?)?;
+    assert!(rt; is_line(pinned, "9 10 c1 pin 0 at 2\n"));
+    let early = plain_text(alloc, 1, &pin(alloc, CallerReply::NoSnapshot)?)?;
+    assert!(rt; is_line(early, "1 10 c1 pin 0 nosnapshot\n"));
+    let commit = caller(12, CallerEvent::Commit(CallId(0)), CallerReply::Released);
+    assert!(rt;
+        is_line(
+            plain_text(alloc, 12, &commit)?,
+            "12 12 c1 commit 0 released\n"
+        )
     );
-    let no_snapshot = plain_text(alloc, 1, &no_snapshot)?;
-    assert_eq!(rt; no_snapshot.as_str(), "1 5 c1 pin 0 nosnapshot\n");
-    let no_address = plain_text(alloc, 2, &caller(6, pick(0), endpoint(0, 0)))?;
-    assert_eq!(rt;
-        no_address.as_str(),
-        "2 6 c1 pick 0 endpoint  at 2 child 0 locality 0 place 0\n"
-    );
-    let far = picked(alloc, endpoint(1, 0))?;
-    assert_eq!(rt;
-        far.as_str(),
-        "15 14 c1 pick 3 endpoint  at 2 child 0 locality 1 place 0\n"
-    );
-    let no_rule = picked(
-        alloc,
-        CallerReply::Drop {
-            snapshot: 2,
-            rule: 3,
-        },
-    )?;
-    assert_eq!(rt; no_rule.as_str(), "15 14 c1 pick 3 drop  at 2\n");
-    let no_route = held(
-        alloc,
-        RouteAnswer::To {
-            route: 3,
-            choice: 0,
-        },
-    )?;
-    assert_eq!(rt; no_route.as_str(), "14 13 c1 hold 7 to 3  at 4\n");
     Ok(())
 }

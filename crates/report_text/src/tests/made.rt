@@ -66,6 +66,11 @@ pub const FAILING: ChildView = ChildView {
     unused: false,
 };
 
+/// Whether a text is this one.
+pub fn is_line(text: String, line: &str) -> bool {
+    text.as_str() == line
+}
+
 pub fn text(alloc: Global, text: &str) -> Result<Text, Fail> {
     Ok(Text::from_str(alloc, text)?)
 }
