@@ -10,7 +10,7 @@ use Rattle.call_journal.specs.declared.reply.Sent.{Sent}
 use Rattle.call_journal.specs.declared.entry.What.{What}
 use Rattle.call_journal.specs.declared.entry.Entry.{Entry}
 use Rattle.xds_history.specs.Setting.{Setting}
-use Rattle.xds_history.specs.Pages.{caller_page, driver_page, page_of, pages, present_after}
+use Rattle.xds_history.specs.Pages.{caller_page, page_of, present_after}
 use Rattle.xds_history.specs.Requests.{requests}
 use Rattle.xds_history.specs.Right.{IsDriverReply, IsReply, caller_reply}
 use Rattle.xds_history.specs.declared.page.Page.{Page}

@@ -1,5 +1,5 @@
 -- Pages whose resources passed their checks.
-use Rattle.std.proofs.Common.{◌≡◌, ℕ, List, [], ◌∷◌, Bool, true, false, ◌==◌, refl}
+use Rattle.std.proofs.Common.{ℕ, List, [], ◌∷◌, Bool, true, false, ◌==◌}
 use Rattle.std.specs.Prelude.{Option, Some, None, IfOk, IfSome, if◌then◌else◌, option_and_then}
 use Rattle.std.specs.Option.{option_or}
 use Rattle.xds_config.specs.Configs.{IsLawfulConfig, IsLawfulFront}
@@ -8,7 +8,7 @@ use Rattle.xds_history.specs.declared.page.Page.{Page}
 use Rattle.xds_history.specs.References.{snapshot_at}
 use Rattle.xds_history.specs.Page.{watched_now}
 use Rattle.plain_history.specs.Lawful.{AreLawfulWatched}
-use Rattle.plain_client.specs.Lawful.{AreLawfulPages, IsLawfulPage}
+use Rattle.plain_client.specs.Lawful.{AreLawfulPages}
 
 -- the configuration of a snapshot is lawful
 abbrev IsLawful : Snapshot → Type 0

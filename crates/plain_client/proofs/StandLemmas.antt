@@ -1,5 +1,5 @@
 -- What stands after an event, piece by piece.
-use Rattle.std.proofs.Common.{◌≡◌, ℕ, List, refl, sym, ap, ◌∙◌, subst}
+use Rattle.std.proofs.Common.{◌≡◌, List, sym, ap, ◌∙◌}
 use Rattle.std.specs.Prelude.{Option}
 use Rattle.xc_base.specs.declared.names.Key.{Key}
 use Rattle.xds_config.specs.declared.config.Config.{Config}

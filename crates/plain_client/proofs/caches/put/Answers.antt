@@ -1,5 +1,3 @@
-use Rattle.std.proofs.Common.{sym, subst}
-use Rattle.xds_cache.specs.Fates.{IsLawfulAt}
 use Rattle.plain_history.proofs.LawfulLemmas.{judged_lawful}
 use Rattle.plain_client.proofs.CacheLemmas.{begins}
 use Rattle.plain_client.proofs.caches.put.Goals as goal

@@ -1,4 +1,4 @@
-use Rattle.std.proofs.Common.{rules, ◌≡◌, ◌∷◌, [], ◌+◌, List, length, sym, subst, ◌++◌}
+use Rattle.std.proofs.Common.{rules, ◌≡◌, ◌∷◌, ◌+◌, List, length, sym, subst, ◌++◌}
 use Rattle.std.specs.Prelude.{string_bytes}
 use Rattle.report_text.specs.Report.{entries_text}
 use Rattle.xds_history.specs.Report.{shown_entries}

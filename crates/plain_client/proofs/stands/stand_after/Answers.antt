@@ -1,6 +1,5 @@
-use Rattle.std.proofs.Common.{◌≡◌, ap, ◌∙◌, sym, subst}
+use Rattle.std.proofs.Common.{◌∙◌, sym, subst}
 use Rattle.std.specs.Prelude.{option_copied}
-use Rattle.xds_history.specs.Fates.{marked}
 use Rattle.plain_history.specs.Given.{came_of, setting_in}
 use Rattle.plain_history.specs.Lawful.{AreLawfulWatched}
 use Rattle.plain_history.proofs.LawfulLemmas.{marked_heard_lawful, watch_lawful}

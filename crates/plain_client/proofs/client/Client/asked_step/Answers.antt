@@ -1,9 +1,5 @@
-use Rattle.std.proofs.Common.{◌≡◌, sym, ap, ◌∙◌, subst}
-use Rattle.xds_history.specs.Right.{caller_reply}
-use Rattle.plain_history.specs.Given.{setting_in}
-use Rattle.plain_client.specs.Clients.{IsNext, caller_entry}
+use Rattle.std.proofs.Common.{sym, subst}
 use Rattle.plain_client.specs.Lawful.{AreLawfulPages}
-use Rattle.plain_client.proofs.NextLemmas.{caller_next}
 use Rattle.plain_client.proofs.client.Client.asked_step.Goals as goal
 
 pub caller_reply-requires : goal.caller_reply-requires

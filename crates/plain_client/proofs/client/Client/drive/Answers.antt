@@ -1,4 +1,4 @@
-use Rattle.std.proofs.Common.{sym, subst}
+use Rattle.std.proofs.Common.{subst}
 use Rattle.plain_client.specs.Clients.{IsDriven}
 use Rattle.plain_client.proofs.GainLemmas.{gone_on}
 use Rattle.plain_client.proofs.client.Client.drive.Goals as goal

@@ -1,4 +1,3 @@
-use Rattle.std.proofs.Common.{rules}
 use Rattle.plain_history.specs.Given.{setting_in}
 use Rattle.plain_client.proofs.NextLemmas.{grown}
 use Rattle.plain_client.proofs.client.Client.with.Goals as goal
