@@ -6,6 +6,7 @@ pub mod assembly;
 pub mod caches;
 pub mod client;
 pub mod copies;
+pub mod legal;
 pub mod replies;
 pub mod report;
 pub mod sessions;

@@ -4,7 +4,8 @@ ghost use Rattle.plain_history.specs.Given.{IsShortEvent};
 ghost use Rattle.plain_client.specs.Clients.{IsPlayable, IsRight};
 
 use crate::client::Client;
-use call_journal::{BytesHow, CallerEvent, CallerReply, DriverEvent, Entry, What};
+use crate::legal::is_pinned;
+use call_journal::{BytesHow, CallerEvent, DriverEvent, Entry, What};
 use grpc_framing::{FrameFault, Frames};
 use header_match::Patterns;
 use plain_history::given::Channel;
@@ -185,17 +186,13 @@ fn play_driver<P: Patterns>(
 
 // ---- what callers' lines make
 
-// Whether an entry is a pin that got a snapshot.
-fn is_pinned(entry: &Entry) -> bool {
-    match &entry.what {
-        What::Caller { reply, .. } => matches!(reply, CallerReply::Pinned(_)),
-        What::Driver { .. } => false,
-    }
-}
-
-fn newest_is_pinned(entries: &[Shared<Entry>]) -> bool {
+// Whether the newest entry is a pin that got a snapshot.
+fn is_started(entries: &[Shared<Entry>]) -> bool {
     match entries.split_first() {
-        Some((entry, _)) => is_pinned(entry.get()),
+        Some((entry, _)) => match &entry.get().what {
+            What::Caller { reply, .. } => is_pinned(reply),
+            What::Driver { .. } => false,
+        },
         None => false,
     }
 }
@@ -213,7 +210,7 @@ fn start(
     ensures channel { IfOk result (λ after. after.channel ≡ client.channel) }
 {
     let client = client.ask(alloc, caller, number, CallerEvent::Pin(call.share()?))?;
-    if newest_is_pinned(client.entries.as_slice()) {
+    if is_started(client.entries.as_slice()) {
         client.ask(alloc, caller, number, CallerEvent::Hold(call.share()?))
     } else {
         Ok(client)
