@@ -241,8 +241,8 @@ impl Client {
     }
 
     /// The client after an event of the driver, for a line of a session. `patterns` builds the patterns of what
-    /// comes, or refuses their texts. Memory also comes where `hear` gives it, and where no number of a snapshot
-    /// is left.
+    /// comes, or refuses their texts. Memory also comes where a resource is too long to be read, where the texts
+    /// that were refused aren't those at which the checks stopped, and where no number of a snapshot is left.
     pub fn drive<P: Patterns>(
         self,
         alloc: Global,

@@ -274,9 +274,9 @@ fn is_playable(channel: &Channel) -> bool
         && matches!(channel.target.key.kind, Kind::Listener)
 }
 
-/// Plays the lines of a session in the order of the file, and then the last sweep: a right history of its channel. Memory also
-/// comes where the session's target is no listener or its bootstrap has more authorities than can be named, which
-/// no session has that was read.
+/// Plays the lines of a session in the order of the file, and then the last sweep: a right history of its
+/// channel. Memory also comes where `Client::drive` gives it, where the target is no listener, and where the
+/// bootstrap has more authorities than can be named.
 pub fn play<P: Patterns>(
     alloc: Global,
     session: Session,
