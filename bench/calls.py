@@ -1,10 +1,9 @@
 """bench/calls.py [--runs N] [--most RATIO]: the time of sessions of 10,000 and 100,000 lines of calls, and their ratio.
 
 A session has at most 65,536 call numbers, and each may start once. So what is counted are the lines of the
-caller: half of them start a call, and half commit one. The stream is opened, one response publishes a
-snapshot with two routes, and then each call is started and committed. The time is the least of N runs of
-the whole program, from its start to the end of its report. With --most the status is 1 where the ratio
-is above it.
+caller: half of them start a call, and half commit one. First a snapshot with two routes to two clusters is
+published, and then each call is started and committed. The time is the least of N runs of the whole program,
+from its start to the end of its report. With --most the status is 1 where the ratio is above it.
 """
 
 import argparse
@@ -13,19 +12,7 @@ import sys
 import timing
 
 sys.path.insert(0, str(timing.HOME / "tools"))
-import wire  # noqa: E402
-
-
-def session(lines):
-    """A session with so many lines of its caller."""
-    rules = [("path", "/shop.Cart/Add", "cart"), ("prefix", "/shop.", "shop")]
-    payload = wire.plain_response("1", "n1", "svc", "r", rules)
-    out = ["xds-session 1", 'boot {"xds_servers":[{"server_uri":"ms:1"}],"node":{"id":"n"}}',
-           "target xds:///svc", "callers 1", "d open -", "d data - " + wire.frame(payload).hex()]
-    for call in range(lines // 2):
-        path = "/shop.Stock/List" if call % 2 else "/shop.Cart/Add"
-        out += [f"c 1 start {call} {call} {path}", f"c 1 commit {call}"]
-    return "".join(line + "\n" for line in out)
+import large_sessions  # noqa: E402
 
 
 def main():
@@ -35,7 +22,7 @@ def main():
     given = parser.parse_args()
     program, times = timing.built(), []
     for lines in (10_000, 100_000):
-        times.append(timing.seconds([program, "run"], session(lines), given.runs))
+        times.append(timing.seconds([program, "run"], large_sessions.text(large_sessions.calls(lines // 2)), given.runs))
         print(f"{lines:,} lines of calls: {times[-1] * 1000:.1f} ms")
     return timing.ratio_of(times, given)
 

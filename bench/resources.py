@@ -2,7 +2,7 @@
 
 A listener with one virtual host of 2,000 routes to 1,024 clusters, against one of 1,000 routes to 512; and an assignment
 of 20,000 endpoints, against one of 10,000. Each is checked in so many copies. The time is the least of N runs of the
-program show_resource, less that of a run on nothing. With --most the status is 1 where a ratio is above it.
+program probe_resource, less that of a run on nothing. With --most the status is 1 where a ratio is above it.
 """
 
 import argparse
@@ -13,29 +13,22 @@ import timing
 sys.path.insert(0, str(timing.HOME / "tools"))
 import wire  # noqa: E402
 
-ASSIGNMENT = wire.TYPES + "envoy.config.endpoint.v3.ClusterLoadAssignment"
-
-
 def listener(routes, clusters):
     """A Listener whose routes are tests of whole paths."""
     rules = [("path", f"/shop.Cart/Item{place}", f"cluster{place % clusters}") for place in range(routes)]
-    host = wire.virtual_host("h", ["*"], [wire.route(*rule) for rule in rules])
-    return "listener", wire.LISTENER, wire.listener("svc", wire.route_configuration("r", [host]))
+    return "listener", wire.LISTENER, wire.listener_of("svc", "r", rules)
+
+
+def host(each):
+    """The host of an endpoint."""
+    return f"10.{each // 65536}.{each // 256 % 256}.{each % 256}"
 
 
 def assignment(endpoints):
-    """A ClusterLoadAssignment (cluster_name 1, endpoints 2) of localities of a hundred endpoints each."""
-    localities = b""
-    for place in range(0, endpoints, 100):
-        # LocalityLbEndpoints: locality 1 (zone 2), lb_endpoints 2 (endpoint 1, address 1, socket_address 1: address 2,
-        # port_value 3), load_balancing_weight 3 (value 1)
-        body = wire.delimited(1, wire.text(2, f"zone{place}"))
-        for each in range(place, place + 100):
-            socket = wire.text(2, f"10.{each // 65536}.{each // 256 % 256}.{each % 256}") + wire.number(3, 80)
-            body += wire.delimited(2, wire.delimited(1, wire.delimited(1, wire.delimited(1, socket))))
-        body += wire.delimited(3, wire.number(1, 1))
-        localities += wire.delimited(2, body)
-    return "endpoint", ASSIGNMENT, wire.text(1, "web") + localities
+    """A ClusterLoadAssignment of localities of a hundred endpoints each."""
+    places = range(0, endpoints, 100)
+    return "endpoint", wire.ENDPOINT, wire.assignment(
+        "web", [wire.locality(f"zone{place}", map(host, range(place, place + 100))) for place in places])
 
 
 def lines(resource, copies):
@@ -54,7 +47,7 @@ def main():
     parser.add_argument("--copies", type=int, default=20, help="how many copies are checked in a run")
     timing.add_most(parser)
     given = parser.parse_args()
-    program, is_above = timing.built("show_resource"), False
+    program, is_above = timing.built("probe_resource"), False
     nothing = seconds(program, "", given.runs)
     for name, small, large in (
         ("routes of a listener", (1_000, listener(1_000, 512)), (2_000, listener(2_000, 1_024))),

@@ -1,7 +1,7 @@
 """bench/sessions.py [--runs N] [--most RATIO]: the time to read sessions of 100,000 and 200,000 lines, and their ratio.
 
 Of twenty lines nineteen are a caller's, most with gates, some with header fields, and one is the driver's. The time is the
-least of N runs of show_session, which reads its whole input before it writes, less that of a run over four
+least of N runs of probe_session, which reads its whole input before it writes, less that of a run over four
 lines. With --most the status is 1 where the ratio is above it.
 """
 
@@ -41,7 +41,7 @@ def main():
     parser.add_argument("--runs", type=int, default=5, help="how often each session is read")
     timing.add_most(parser)
     given = parser.parse_args()
-    program, times = timing.built("show_session"), []
+    program, times = timing.built("probe_session"), []
     least = seconds(program, session(4), given.runs)
     for lines in (100_000, 200_000):
         text = session(lines)

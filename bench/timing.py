@@ -1,18 +1,39 @@
 """What the benchmarks share: programs of the repository, and how long a run of one takes."""
 
 import argparse
+import os
 import pathlib
 import subprocess
+import sys
 import tempfile
 import time
 
 HOME = pathlib.Path(__file__).resolve().parent.parent
+ALONE, FULL = HOME / "bench/run_alone.py", "/dev/full"
 
 
 def built(name="xds_replay"):
     """The path of a program of the repository, which is built first where it has to be."""
     ran = subprocess.run(["bash", HOME / "tools/built.sh", name], stdout=subprocess.PIPE, check=True, text=True)
     return ran.stdout.strip()
+
+
+def programs():
+    """The path of xds_replay, and behind it that of the program that XDS_YARDSTICK names, if it names one."""
+    other = os.environ.get("XDS_YARDSTICK")
+    return [built()] + ([str(pathlib.Path(other).resolve())] if other else [])
+
+
+def alone(program, words, given, is_written=True):
+    """The user time in seconds and the peak memory in bytes of one run of a program over a file, by itself. Where nothing is
+    to be written, it meets an output that takes no byte, and ends with the status of a write fault."""
+    output, wanted, said = (os.devnull, "0", None) if is_written else (FULL, "5", subprocess.DEVNULL)
+    command = [sys.executable, "-I", "-S", ALONE, given, output, program, *words]
+    ran = subprocess.run(command, stdout=subprocess.PIPE, stderr=said, check=True, text=True)
+    took, memory, status = ran.stdout.split()
+    if status != wanted:
+        raise SystemExit(f"{program}: status {status}")
+    return float(took), float(memory)
 
 
 def seconds(command, text, runs, is_right=None):
@@ -44,19 +65,18 @@ def ratio_of(times, given):
     return given.most is not None and ratio > given.most
 
 
-def updates_of(what, program, sizes, runs, updates, most=None):
-    """Prints what an update of a program costs with two numbers of clusters, and tells whether the ratio is more than
-    is allowed. A run's time is the least of several, less that of the same run without updates."""
+def updates_of(what, played, sizes, runs, updates, most=None):
+    """Prints what an update costs with two numbers of clusters, and tells whether the ratio is more than is allowed.
+    `played` gives the least time of several runs with so many clusters and updates; that of a run without updates is
+    taken off."""
     parser = argparse.ArgumentParser(description=what)
     parser.add_argument("--runs", type=int, default=runs, help="how often each run is made")
     parser.add_argument("--updates", type=int, default=updates, help="how many updates are played")
     add_most(parser)
     parser.set_defaults(most=most)
     given, costs = parser.parse_args(), []
-    program = built(program)
     for clusters in sizes:
-        took = seconds([program, str(clusters), str(given.updates)], "", given.runs)
-        took -= seconds([program, str(clusters), "0"], "", given.runs)
+        took = played(clusters, given.updates, given.runs) - played(clusters, 0, given.runs)
         costs.append(took / given.updates)
         print(f"{clusters:,} clusters: {costs[-1] * 1e6:.1f} microseconds an update")
     return ratio_of(costs, given)

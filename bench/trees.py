@@ -1,20 +1,25 @@
-"""bench/trees.py [--runs N] [--updates N] [--most RATIO]: what an update of trees costs with 64 and with 1,024 clusters, and their ratio.
+"""bench/trees.py [--runs N] [--updates N] [--most RATIO]: what an update of trees costs with 512 and with 1,024 clusters, and their ratio.
 
-Each cluster has one tree of two priorities, each of one locality with 32 addresses. All addresses are READY,
-and then one address of one cluster changes its state at each update. The time is the least of N runs of
-the whole program, less that of the same run without updates. With --most the status is 1 where the ratio is
-above it.
+Each update is a line that reports the state of one endpoint, after which a snapshot of all clusters is published and reported.
+The time is the least of N runs of the whole program, less that of the same session without these lines. With --most the status
+is 1 where the ratio is above it.
 """
 
 import sys
 
 import timing
 
+sys.path.insert(0, str(timing.HOME / "tools"))
+import large_sessions  # noqa: E402
+
 
 def main():
-    return timing.updates_of(
-        "What an update of trees costs with 64 and with 1,024 clusters.", "tree_bench", (64, 1_024), 5, 20_000
-    )
+    program = timing.built()
+
+    def played(clusters, updates, runs):
+        return timing.seconds([program, "run"], large_sessions.text(large_sessions.endpoint_lines(updates, clusters)), runs)
+
+    return timing.updates_of("What an update of trees costs with 512 and with 1,024 clusters.", played, (512, 1_024), 5, 5_000)
 
 
 if __name__ == "__main__":

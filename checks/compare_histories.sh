@@ -1,6 +1,7 @@
-# Compares the plain program of the definitions with a reference program over worked sessions and over 10,000 random
-# ones of at most 60 lines: the reports are byte for byte the same. XDS_REFERENCE names the folder of the reference.
+# Compares the reports of the program with 400 recorded ones, and, where there is a reference program, with it over worked
+# sessions and 10,000 random ones of at most 60 lines: they are byte for byte the same. XDS_REFERENCE names the folder of
+# the reference.
 set -euo pipefail
 cd "$(dirname "$0")/.."
 . tests/reference.sh
-compare_with_reference compare_histories plain_replay
+compare_with_reference compare_histories xds_replay

@@ -6,5 +6,5 @@ if ! command -v protoc >/dev/null; then
   echo "read_protobuf: skipped, since protoc isn't installed"
   exit
 fi
-show=$(bash tools/built.sh show_discovery)
+show=$(bash tools/built.sh probe_discovery)
 python3 tests/read_protobuf.py "$show"

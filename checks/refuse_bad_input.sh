@@ -1,5 +1,5 @@
-# Runs the program on words and bytes that aren't a session that is played: each has its status and its named
-# cause on standard error, and no part of a report. A source and a sink that fail are told apart from these.
+# Runs the program on words that aren't a command and on bytes that aren't a session: each has its status and its named cause
+# on standard error, and no part of a report. A source that fails is told apart from these.
 set -eu
 cd "$(dirname "$0")/.."
 program=$(bash tools/built.sh)
@@ -24,46 +24,98 @@ refused 'another word' 2 "$usage" ran </dev/null
 refused 'two words' 2 "$usage" run run </dev/null
 refused 'help' 2 "$usage" --help </dev/null
 refused 'a word that is no text' 2 "$usage" $'\xff' </dev/null
+refused 'no rounds' 2 "$usage" gen </dev/null
+for rounds in 0 1001 01 +1 1x '' ' 1'; do
+  refused "gen of '$rounds'" 2 "$usage" gen "$rounds" </dev/null
+  refused "load of '$rounds'" 2 "$usage" load "$rounds" </dev/null
+done
+refused 'a word more' 2 "$usage" load 1 1 </dev/null
 
-head4=$(head -4 examples/four_lines.session)
-open=$(printf '%s\nd open -' "$head4")
-data=$(sed -n 6p examples/first_path.session)
-opened=$(printf '%s\n%s' "$open" "$data")
+head4=$(head -4 examples/no_events.session)
+callers2=${head4/callers 1/callers 2}
+
+# line CAUSE LINE..: a session of one caller whose last line is refused.
+line() {
+  local cause=$1
+  shift
+  at "$*" "$(($# + 4))" "$cause" < <(printf '%s\n' "$head4" "$@")
+}
 
 at 'nothing' 0 short </dev/null
-at 'three lines' 0 short < <(head -3 examples/four_lines.session)
+at 'three lines' 0 short < <(head -3 examples/no_events.session)
 at 'another header' 1 header < <(echo 'xds-session 2')
-at 'a header that is no text' 1 unbuilt < <(printf '\xff\n')
-at 'another bootstrap' 2 unbuilt < <(printf '%s\n' 'xds-session 1' 'boot {}')
-at 'another target' 3 unbuilt < <(sed '3s/.*/target dns:svc/' examples/four_lines.session)
-at 'two callers' 4 unbuilt < <(sed '4s/.*/callers 2/' examples/four_lines.session)
-at 'data without a stream' 5 unbuilt < <(printf '%s\n%s\n' "$head4" "$data")
-at 'an empty line' 6 unbuilt < <(printf '%s\n\n' "$open")
-at 'a second open' 6 unbuilt < <(printf '%s\nd open -\n' "$open")
-at 'odd hexadecimal text' 6 unbuilt < <(printf '%s\n%s0\n' "$open" "$data")
-at 'a compressed frame' 6 unbuilt < <(printf '%s\n%s\n' "$open" 'd data - 0100000000')
-at 'a frame and more' 6 unbuilt < <(printf '%s\n%s00\n' "$open" "$data")
-at 'an empty response' 6 unbuilt < <(printf '%s\n%s\n' "$open" 'd data - 0000000000')
-other=$(python3 tools/data_line.py other prefix:/=web)
-at 'a listener of another name' 6 unbuilt < <(printf '%s\n%s\n' "$open" "$other")
-at 'a line, before an empty response' 7 unbuilt < <(printf '%s\n%s\nd time 5\n' "$open" 'd data - 0000000000')
-at 'a second start' 8 unbuilt < <(printf '%s\nc 1 start 0 0 /a\nc 1 start 0 0 /a\n' "$opened")
-at 'a great call' 7 unbuilt < <(printf '%s\nc 1 start 65536 0 /a\n' "$opened")
-at 'a leading zero' 7 unbuilt < <(printf '%s\nc 1 start 00 0 /a\n' "$opened")
-at 'a great word' 7 unbuilt < <(printf '%s\nc 1 start 0 18446744073709551616 /a\n' "$opened")
-at 'a path without a slash' 7 unbuilt < <(printf '%s\nc 1 start 0 0 a\n' "$opened")
-at 'a header field' 7 unbuilt < <(printf '%s\nc 1 start 0 0 /a x=y\n' "$opened")
-at 'another caller' 7 unbuilt < <(printf '%s\nc 2 commit 0\n' "$opened")
-at 'a gate' 7 unbuilt < <(printf '%s\n@5 d sweep\n' "$opened")
+at 'a header that is no text' 1 text < <(printf '\xff\n')
+at 'a bootstrap without servers' 2 boot < <(sed '2s/.*/boot {}/' examples/no_events.session)
+at 'a bootstrap that is no JSON' 2 boot < <(sed '2s/.*/boot {/' examples/no_events.session)
+at 'a target of another scheme' 3 target < <(sed '3s/.*/target dns:svc/' examples/no_events.session)
+at 'a target of an authority that is not there' 3 target < <(sed '3s/.*/target xds:\/\/a\/svc/' examples/no_events.session)
+for callers in 0 17 01 x ''; do
+  at "callers $callers" 4 callers < <(sed "4s/.*/callers $callers/" examples/no_events.session)
+done
+
+line text 'd sweep' $'d open \xff'
+line word ''
+line word 'd sweep '
+line word 'd  sweep'
+line word 'D sweep'
+line word 'd open - -'
+line word 'd swept'
+line word 'c 1 start 0 0'
+line word 'd sweep' '@5 @5 d sweep'
+line word $'d sweep\r'
+line gate '@5 d sweep'
+line gate '@4 d sweep'
+line gate 'd sweep' '@05 d sweep'
+line gate 'd sweep' '@ d sweep'
+line gate '@99 d open +nobody'
+line authority 'd open +nobody'
+line authority 'd lost x'
+line authority 'd data +nobody 0g'
+line hex 'd open -' 'd data - 0'
+line hex 'd data - 0g'
+line hex 'd data - '
+line number 'd time 1000000000001'
+line number 'd time 05'
+line number 'd time -1'
+line number 'c 1 commit 65536'
+line number 'c 1 pick 0 18446744073709551616'
+line number 'c 1 start 00 0 /a'
+line number 'c 9 commit 70000'
+line number 'c x commit 0'
+line time 'd time 5' 'd time 4'
+line address 'd endpoint 10.0.0.256:80 ready'
+line address 'd endpoint 10.0.0.1:0 ready'
+line address 'd endpoint 10.0.0.1:080 ready'
+line address 'd endpoint 10.0.0.1 up'
+line address 'd endpoint ::1:80 ready'
+line address 'd endpoint svc:80 ready'
+line state 'd endpoint 10.0.0.1:80 up'
+line caller 'c 0 commit 0'
+line caller 'c 2 commit 0'
+line caller 'c 99999999999999999999 start 0 0 a'
+line call 'c 1 start 0 0 /a' 'c 1 start 0 0 /a'
+line call 'c 1 start 0 0 /a' 'c 1 start 0 0 a'
+at 'the call of another caller' 6 call < <(printf '%s\n' "$callers2" 'c 1 commit 0' 'c 2 commit 0')
+line path 'c 1 start 0 0 a'
+line path 'c 1 start 0 0 a x'
+line field 'c 1 start 0 0 /a x'
+line field 'c 1 start 0 0 /a =y'
+line field 'c 1 start 0 0 /a X=y'
+line field 'c 1 start 0 0 /a x=%ff'
+line field "c 1 start 0 0 /a$(printf ' x=y%.0s' {1..65})"
+
+zeros() { head -c "$1" /dev/zero | tr '\0' 0; }
 at 'too many lines' 200001 lines < <(echo "$head4"; yes 'c 1 commit 0' | head -199997)
-at 'too many lines of the driver' 20005 lines < <(echo "$head4"; yes 'd sweep' | head -20001)
+at 'too many lines of the driver' 20005 lines < <(echo "$head4"; yes '@x d' | head -20000 | sed 's/@x d/d sweep/'; echo '@x @y d')
+at 'too many bytes of data' 6 bytes < <(printf '%s\nd open -\nd data - ' "$head4"; zeros 16777218)
+at 'too many entries' 0 entries < <(printf '%s\nd open -\nd data - ' "$head4"; zeros 10485760)
 at 'too many bytes' 0 size < <(head -c 67108865 /dev/zero)
 refused 'a source that fails' 4 'xds_replay: read fault' run <.
 
 # No front of a session has a part of a report, and most are no session.
-for length in $(seq 0 13 "$(stat -c %s examples/two_routes.session)"); do
+for length in $(seq 0 29 "$(stat -c %s examples/first_fitting_route.session)"); do
   got=0
-  head -c "$length" examples/two_routes.session >"$room/front"
+  head -c "$length" examples/first_fitting_route.session >"$room/front"
   "$program" run <"$room/front" >"$room/out" 2>"$room/err" || got=$?
   case $got in
     0) last=$(tail -1 "$room/out") && [ "${last%% *}" = end ] && [ ! -s "$room/err" ] ;;
@@ -71,18 +123,6 @@ for length in $(seq 0 13 "$(stat -c %s examples/two_routes.session)"); do
     *) false ;;
   esac && good=$((good + 1)) && continue
   bad=$((bad + 1))
-  echo "the first $length bytes of two_routes: status $got, and a wrong output"
+  echo "the first $length bytes of first_fitting_route: status $got, and a wrong output"
 done
-
-# A sink that fails.
-if [ -c /dev/full ]; then
-  got=0
-  "$program" run <examples/first_path.session >/dev/full 2>"$room/err" || got=$?
-  if [ "$got $(cat "$room/err")" = '5 xds_replay: write fault' ]; then
-    good=$((good + 1))
-  else
-    bad=$((bad + 1))
-    echo "a sink that fails: status $got"
-  fi
-fi
 told refuse_bad_input

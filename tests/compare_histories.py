@@ -1,28 +1,32 @@
-"""tests/compare_histories.py SHOW REFERENCE [COUNT [FIRST]]: compares the plain program with a reference program.
+"""tests/compare_histories.py PROGRAM [REFERENCE [COUNT [FIRST [MOST]]]]: compares the reports of a program with recorded
+ones, and with those of a reference program.
 
-SHOW is the program plain_replay, and REFERENCE the folder of the reference, which plays sessions and makes random
-ones. COUNT random sessions (10,000 if none is given) of at most 60 lines, those from number FIRST on, and the worked
-sessions of the folder `rows` beside the reference, are played by both. Both write the same report byte for byte, or
-tell the same first fault and its line. A worked session with a report of its own (`.expected`, and no `.stage`, which
-marks a report of a part of the program) is compared with that report too.
+PROGRAM is xds_replay, which is called with the word `run`. It plays the 400 sessions of the corpus. REFERENCE is the
+folder of a reference, which plays sessions and makes random ones: COUNT random sessions (10,000 if none is given) of at
+most MOST lines (60 if none is given), those from number FIRST on, and the worked sessions of the folder `rows` beside the
+reference, are played by both. Each report is the same byte for byte, or the first fault and its line are. A worked session
+with a report of its own (`.expected`, and no `.stage`, which marks a report of a part of the program) is compared with that
+report too.
 """
 
 import pathlib
 import subprocess
 import sys
 
-sys.path.insert(0, str(pathlib.Path(__file__).resolve().parent.parent / "tools"))
+HERE = pathlib.Path(__file__).resolve().parent
+sys.path[:0] = [str(HERE), str(HERE.parent / "tools")]
+import corpus  # noqa: E402
 from reference import Reference  # noqa: E402
 
-MOST_LINES = 60
+COUNT, FIRST, MOST = 10_000, 1, 60
 
 
-def random_sessions(reference, count, first):
-    """So many sessions of at most 60 lines, each with its number."""
+def random_sessions(reference, count, first, most):
+    """So many sessions of at most so many lines, each with its number."""
     number = first
     while count > 0:
         text = reference.whole_session(number)
-        if text.count(b"\n") <= MOST_LINES:
+        if text.count(b"\n") <= most:
             count -= 1
             yield f"session {number}", text
         number += 1
@@ -42,12 +46,15 @@ def own_report(folder, name):
     return None
 
 
-def told(show, text):
+def told(program, text):
     """What the program writes: a report, or the line of a fault without the program's name."""
-    ran = subprocess.run([show], input=text, capture_output=True, timeout=60, check=False)
-    if ran.returncode == 0:
+    ran = subprocess.run([program, "run"], input=text, capture_output=True, timeout=60, check=False)
+    said = ran.stderr.decode(errors="replace")
+    if ran.returncode == 0 and not said:
         return ran.stdout.decode(errors="replace")
-    return ran.stderr.decode(errors="replace").partition(": ")[2]
+    if ran.returncode == 3 and not ran.stdout:
+        return said.partition(": ")[2]
+    return f"status {ran.returncode}, with {len(ran.stdout)} bytes of a report, and {said}"
 
 
 def first_difference(got, wanted):
@@ -58,36 +65,54 @@ def first_difference(got, wanted):
     return "one is longer"
 
 
-def main():
-    show, reference = pathlib.Path(sys.argv[1]).resolve(), Reference(sys.argv[2])
-    count = int(sys.argv[3]) if len(sys.argv) > 3 else 10_000
-    first = int(sys.argv[4]) if len(sys.argv) > 4 else 1
-    rows = pathlib.Path(sys.argv[2]).resolve().parent / "rows"
-    equal, bad, entries = 0, 0, 0
+class Comparison:
+    """Counts texts that are equal and texts that differ, and tells of the first three that differ."""
 
-    def compare(name, got, wanted):
-        nonlocal equal, bad
+    def __init__(self):
+        self.equal = self.bad = 0
+
+    def compare(self, name, got, wanted):
         if got == wanted:
-            equal += 1
+            self.equal += 1
             return
-        bad += 1
-        if bad <= 3:
+        self.bad += 1
+        if self.bad <= 3:
             print(f"{name}: {first_difference(got, wanted)}")
 
+
+def compare_recorded(program, comparison):
+    """The sessions of the corpus."""
+    for row in corpus.read("histories"):
+        comparison.compare(row["name"], told(program, row["session"]), row["report"])
+    print(f"{comparison.equal + comparison.bad} recorded sessions")
+
+
+def compare_with(folder, program, choice, comparison):
+    """The worked sessions beside a reference, and random ones."""
+    reference, rows = Reference(folder), pathlib.Path(folder).resolve().parent / "rows"
+    before = comparison.equal + comparison.bad
     for name, text in worked_sessions(rows):
-        got = told(show, text)
-        compare(name, got, reference.whole_report(text))
+        got = told(program, text)
+        comparison.compare(name, got, reference.whole_report(text))
         own = own_report(rows, name)
         if own is not None and not got.startswith("session line"):
-            compare(f"{name}.expected", got, own)
-    worked = equal + bad
-    for name, text in random_sessions(reference, count, first):
+            comparison.compare(f"{name}.expected", got, own)
+    worked, entries = comparison.equal + comparison.bad - before, 0
+    for name, text in random_sessions(reference, *choice):
         wanted = reference.whole_report(text)
         entries += wanted.count("\n")
-        compare(name, told(show, text), wanted)
-    print(f"{worked} comparisons of worked sessions, {count} random sessions with {entries} lines of reports")
-    print(f"{equal} equal, {bad} differ")
-    return bad > 0
+        comparison.compare(name, told(program, text), wanted)
+    print(f"{worked} comparisons of worked sessions, {choice[0]} random sessions with {entries} lines of reports")
+
+
+def main():
+    program, comparison = pathlib.Path(sys.argv[1]).resolve(), Comparison()
+    compare_recorded(program, comparison)
+    if len(sys.argv) > 2:
+        given = [int(word) for word in sys.argv[3:]]
+        compare_with(sys.argv[2], program, given + [COUNT, FIRST, MOST][len(given):], comparison)
+    print(f"{comparison.equal} equal, {comparison.bad} differ")
+    return comparison.bad > 0
 
 
 if __name__ == "__main__":

@@ -1,9 +1,10 @@
-"""tests/compare_resources.py SHOW REFERENCE [COUNT]: compares the check of resources with a reference program.
+"""tests/compare_resources.py SHOW [REFERENCE [COUNT]]: compares the check of resources with recorded answers, and with a
+reference program.
 
-SHOW is the program show_resource, and REFERENCE the folder of the reference, which has a check of resources and makes
-random sessions. COUNT resources (5,000 if none is given) are checked by both: those of the sessions' responses, most of
-them with a field or some bytes changed, or checked as one of another kind. Both tell the same name and
-value, or the same name and reason. The resources are the same at each run.
+SHOW is the program probe_resource. It checks the 300 resources of the corpus. REFERENCE is the folder of a reference,
+which has a check of resources and makes random sessions: COUNT resources (5,000 if none is given) are checked by both,
+those of the sessions' responses, most of them with a field or some bytes changed, or checked as one of another kind.
+Each answer is the same name and value, or the same name and reason. The resources are the same at each run.
 """
 
 import importlib.util
@@ -13,7 +14,10 @@ import re
 import subprocess
 import sys
 
-TOOLS = pathlib.Path(__file__).resolve().parent.parent / "tools"
+HERE = pathlib.Path(__file__).resolve().parent
+TOOLS = HERE.parent / "tools"
+sys.path.insert(0, str(HERE))
+import corpus  # noqa: E402
 
 
 def tool(name, path):
@@ -258,21 +262,38 @@ def unescaped(text):
     return re.sub(r"\\(?:u\{([0-9a-f]+)\}|(.))", one, text)
 
 
-def main():
-    show, folder, *rest = sys.argv[1:]
-    reference, count = Reference(folder), int(rest[0]) if rest else 5_000
-    given = list(some_resources(reference, count))
+def answer_of(reference, kind, url, value):
+    """What the program shows of a resource by the reference."""
+    return expected(reference.check(kind, (url, value), reference.Asked(), 16))
+
+
+def shown_by(show, given):
+    """What the program shows of these resources."""
     lines = "".join(f"{KINDS[kind]} {url.encode().hex()} {value.hex()}\n" for kind, url, value in given)
     ran = subprocess.run([show, "show"], input=lines.encode(), capture_output=True, timeout=600, check=False)
     if ran.returncode:
         raise SystemExit(f"{show}: {ran.stderr.decode(errors='replace')}")
-    answers, refused = ran.stdout.decode().split("\n"), 0
-    for place, ((kind, url, value), shown) in enumerate(zip(given, answers)):
-        wanted = expected(reference.check(kind, (url, value), reference.Asked(), 16))
-        refused += wanted.startswith("Err")
-        if unescaped(shown) != wanted:
-            raise SystemExit(f"resource {place}: {KINDS[kind]} {url} {value.hex()}\nthe program: {shown}\nthe reference: {wanted}")
-    print(f"{len(given):,} of {len(given):,} resources agree, of which {refused:,} are refused")
+    return [unescaped(line) for line in ran.stdout.decode().split("\n")]
 
 
-main()
+def compare(what, show, given, wanted):
+    """Compares what the program shows with what is wanted; the first that differs ends the run."""
+    for place, ((kind, url, value), got, answer) in enumerate(zip(given, shown_by(show, given), wanted)):
+        if got != answer:
+            raise SystemExit(f"{what} {place}: {KINDS[kind]} {url} {value.hex()}\nthe program: {got}\nwanted: {answer}")
+    refused = sum(answer.startswith("Err") for answer in wanted)
+    print(f"{len(given):,} of {len(given):,} {what}s agree, of which {refused:,} are refused")
+
+
+def main():
+    show, *rest = sys.argv[1:]
+    rows = list(corpus.read("resources"))
+    compare("recorded resource", show, [(row["kind"], row["url"], row["value"]) for row in rows], [row["answer"] for row in rows])
+    if rest:
+        reference, count = Reference(rest[0]), int(rest[1]) if len(rest) > 1 else 5_000
+        given = list(some_resources(reference, count))
+        compare("resource", show, given, [answer_of(reference, *one) for one in given])
+
+
+if __name__ == "__main__":
+    main()

@@ -1,9 +1,10 @@
-"""tests/compare_sessions.py SHOW REFERENCE [COUNT]: compares the reading of sessions with a reference program.
+"""tests/compare_sessions.py SHOW [REFERENCE [COUNT]]: compares the reading of sessions with recorded answers, and with a
+reference program.
 
-SHOW is the program show_session, and REFERENCE the folder of the reference, which has a reader of sessions and
-makes random ones. Some sessions at the limits and COUNT others (5,000 if none is given) are read by both: of ten, one as it was made, and nine
-with one to three kinds of damage. Both tell the same line and the same cause, or the same number of lines and of
-entries. The sessions are the same at each run.
+SHOW is the program probe_session. It reads the 200 sessions of the corpus. REFERENCE is the folder of a reference, which
+has a reader of sessions and makes random ones: some sessions at the limits and COUNT others (5,000 if none is given) are
+read by both: of ten, one as it was made, and nine with one to three kinds of damage. Each answer is the same line and
+cause, or the same number of lines and of entries. The sessions are the same at each run.
 """
 
 import pathlib
@@ -11,36 +12,11 @@ import random
 import subprocess
 import sys
 
-sys.path.insert(0, str(pathlib.Path(__file__).resolve().parent.parent / "tools"))
+HERE = pathlib.Path(__file__).resolve().parent
+sys.path[:0] = [str(HERE), str(HERE.parent / "tools")]
+import corpus  # noqa: E402
+import mutation  # noqa: E402
 from reference import Reference  # noqa: E402
-
-WORDS = [b"", b"0", b"01", b"x", b"d", b"c", b"-", b"+", b"+x", b"-0", b"@5", b"@", b"17", b"65535", b"65536",
-         b"18446744073709551615", b"18446744073709551616", b"99999999999999999999999999", b"1000000000000",
-         b"1000000000001", b"00", b"0g", b"aB", b"/", b"/x", b"x=%ff", b"x=%c3%a9", b"x=%zz", b"=x", b"X=1", b"a.-_9=",
-         b"open", b"data", b"lost", b"time", b"endpoint", b"sweep", b"start", b"pick", b"commit", b"idle", b"ready",
-         b"Ready", b"[::1]:80", b"::1:80", b"10.0.0.1:0", b"10.0.0.1:80", b"10.0.0.01:80", b"[FE80::a]:8080"]
-LINES = [b"", b" ", b"d sweep", b"d sweep ", b"@5 d sweep", b"@4 d sweep", b"@7 @6 d sweep", b"d time 0", b"d time 7",
-         b"d time 1000000000000", b"d open -", b"d lost +a.example", b"d open +", b"d data - 00", b"d data - ",
-         b"d data - 0", b"d data - 0G", b"d data -", b"d endpoint 10.0.0.1:80 idle", b"d endpoint 10.0.0.1 up",
-         b"c 1 commit 0", b"c 1 pick 1 2", b"c 2 commit 1", b"c 1 start 9 1 /a", b"c 1 start 9 1 a x",
-         b"c 0 start 60000 0 /x", b"c 17 commit 3", b"c 01 commit 3", b"c 99999999999999999999999 commit 3",
-         b"c x commit 70000", b"c 1 start 7 0 /x" + b" a=b" * 64, b"c 1 start 8 0 /x" + b" a=b" * 65,
-         b"c 1 start 7 0 /x =", b"d \xff", b"\xc3\xa9", b"@d d sweep", b"@18446744073709551616 d sweep"]
-
-
-def with_word(r, line):
-    words = line.split(b" ")
-    place = r.randrange(len(words))
-    turn = r.randrange(4)
-    if turn == 0:
-        words[place] = r.choice(WORDS)
-    elif turn == 1:
-        words.insert(place, r.choice(WORDS))
-    elif turn == 2:
-        del words[place]
-    else:
-        words[place] = words[place] + r.choice(WORDS)
-    return b" ".join(words)
 
 
 def with_byte(r, line):
@@ -55,11 +31,11 @@ def damaged(r, text):
     at = r.randrange(least, len(lines))
     turn = r.randrange(9)
     if turn < 3:
-        lines[at] = with_word(r, lines[at])
+        lines[at] = mutation.with_word(r, lines[at])
     elif turn < 5:
         lines[at] = with_byte(r, lines[at])
     elif turn == 5:
-        lines.insert(at, r.choice(LINES))
+        lines.insert(at, r.choice(mutation.LINES))
     elif turn == 6:
         other = r.randrange(least, len(lines))
         lines[at], lines[other] = lines[other], lines[at]
@@ -88,9 +64,8 @@ def at_limits():
     yield head + b"c 1 start 1 1 /x\n" + b"c 1 pick 1 1\n" * 3 + b"d data - " + b"00" * (5 * 1_048_569) + b"\nd sweep"
 
 
-def sessions(reference, count):
-    """The sessions at the limits, and so many others."""
-    yield from at_limits()
+def random_sessions(reference, count):
+    """So many sessions, most of them damaged."""
     for number in range(count):
         r = random.Random(f"session {number}")
         if number % 10 == 0:
@@ -112,23 +87,39 @@ def told(reference, text):
     return f"lines {len(session.lines)} room {reference.room(session)}\n"
 
 
-def main():
-    show, reference = pathlib.Path(sys.argv[1]).resolve(), Reference(sys.argv[2])
-    count = int(sys.argv[3]) if len(sys.argv) > 3 else 5_000
-    bad, causes = 0, {}
-    for number, text in enumerate(sessions(reference, count)):
-        wanted = told(reference, text)
-        ran = subprocess.run([show], input=text, capture_output=True, timeout=60, check=False)
+class Comparison:
+    """Counts answers that are equal and answers that differ, by cause, and tells of the first three that differ."""
+
+    def __init__(self, show):
+        self.show, self.equal, self.bad, self.causes = show, 0, 0, {}
+
+    def compare(self, name, text, wanted):
+        ran = subprocess.run([self.show], input=text, capture_output=True, timeout=60, check=False)
         got = ran.stdout.decode(errors="replace") or f"status {ran.returncode}\n"
         cause = wanted.split()[2] if wanted.startswith("fault") else "none"
-        causes[cause] = causes.get(cause, 0) + 1
-        if got != wanted:
-            bad += 1
-            if bad <= 3:
-                print(f"session {number}: {got.strip()}, where the reference says {wanted.strip()}")
-    print("causes: " + ", ".join(f"{cause} {causes[cause]}" for cause in sorted(causes)))
-    print(f"{count - bad} equal, {bad} differ")
-    return bad > 0
+        self.causes[cause] = self.causes.get(cause, 0) + 1
+        if got == wanted:
+            self.equal += 1
+            return
+        self.bad += 1
+        if self.bad <= 3:
+            print(f"{name}: {got.strip()}, where {wanted.strip()} is wanted")
+
+
+def main():
+    comparison = Comparison(pathlib.Path(sys.argv[1]).resolve())
+    for place, row in enumerate(corpus.read("sessions")):
+        comparison.compare(f"recorded session {place}", row["session"], row["told"])
+    if len(sys.argv) > 2:
+        reference = Reference(sys.argv[2])
+        count = int(sys.argv[3]) if len(sys.argv) > 3 else 5_000
+        for place, text in enumerate(at_limits()):
+            comparison.compare(f"session {place} at the limits", text, told(reference, text))
+        for number, text in enumerate(random_sessions(reference, count)):
+            comparison.compare(f"session {number}", text, told(reference, text))
+    print("causes: " + ", ".join(f"{cause} {count}" for cause, count in sorted(comparison.causes.items())))
+    print(f"{comparison.equal} equal, {comparison.bad} differ")
+    return comparison.bad > 0
 
 
 if __name__ == "__main__":

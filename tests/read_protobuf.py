@@ -1,8 +1,8 @@
 """tests/read_protobuf.py SHOW: compares the reading of responses and the writing of requests with protoc.
 
-SHOW is the program show_discovery. Of 25 random responses, some in two parts or with unknown fields, the
+SHOW is the program probe_discovery. Of 25 random responses, some in two parts or with unknown fields, the
 program tells what protoc encoded. Of 25 random requests, it writes the bytes that protoc encodes, and protoc
-decodes them to what was described. The messages are the same at each run.
+decodes them to what they were made of. The messages are the same at each run.
 """
 
 import pathlib
@@ -10,7 +10,11 @@ import random
 import subprocess
 import sys
 
-TESTS = pathlib.Path(__file__).resolve().parent
+TOOLS = pathlib.Path(__file__).resolve().parent.parent / "tools"
+sys.path.insert(0, str(TOOLS))
+import wire  # noqa: E402
+
+PROTO = TOOLS / "proto"
 KINDS = {
     "listener": "envoy.config.listener.v3.Listener",
     "route": "envoy.config.route.v3.RouteConfiguration",
@@ -32,7 +36,7 @@ def protoc(verb, message, given):
     """protoc's --encode, --decode or (without a message) --decode_raw."""
     if not message:
         return run(["protoc", f"--{verb}"], given)
-    return run(["protoc", f"--proto_path={TESTS}", f"--{verb}=discovery.{message}", "discovery.proto"], given)
+    return run(["protoc", f"--proto_path={PROTO}", f"--{verb}=xds.{message}", "xds.proto"], given)
 
 
 def quoted(body):
@@ -55,16 +59,21 @@ def some_response(r):
     return {"version": some_text(r), "nonce": some_text(r), "type_url": url, "resources": resources}
 
 
-def encoded_response(r, response):
-    """Its bytes, or those of a message that has further fields, and a version of another type."""
+def response_text(response):
+    """The response in protoc's text form."""
     lines = [f"resources {{ type_url: {quoted(url)} value: {quoted(value)} }}" for url, value in response["resources"]]
-    lines += [f"type_url: {quoted(response['type_url'])}", f"nonce: {quoted(response['nonce'])}"]
-    if r.random() < 0.3:
-        response["version"] = ""
-        lines += [f"version_info: {r.randrange(1 << 64)}", "canary: true", f"more: {r.randrange(1 << 64)}"]
-        return protoc("encode", "OtherResponse", "\n".join(lines).encode())
-    lines.append(f"version_info: {quoted(response['version'])}")
-    return protoc("encode", "DiscoveryResponse", "\n".join(lines).encode())
+    lines += [f"{part}: {quoted(response[part])}" for part in ("type_url", "nonce")]
+    return "\n".join([*lines, f"version_info: {quoted(response['version'])}"]).encode()
+
+
+def encoded_response(r, response):
+    """Its bytes; or, without its version, those and further fields, with a version of another type among them."""
+    if r.random() < 0.7:
+        return protoc("encode", "DiscoveryResponse", response_text(response))
+    response["version"] = ""
+    more = wire.number(1, r.randrange(1 << 64)) + wire.number(3, 1) + wire.varint(900 << 3 | 1) + r.randbytes(8)
+    body = protoc("encode", "DiscoveryResponse", response_text(response))
+    return body + more if r.random() < 0.5 else more + body
 
 
 def merged(first, second):
@@ -91,26 +100,21 @@ def try_response(show, r):
 
 
 def some_request(r):
-    node = [some_text(r) for _ in range(5)] if r.random() < 0.5 else None
-    if node and r.random() < 0.4:
-        node[2:] = ["", "", ""]
-    return {"kind": r.choice([*KINDS]), "version": some_text(r), "nonce": some_text(r), "node": node,
-            "names": [some_text(r, 150) for _ in range(r.randint(0, 4))],
-            "error": some_text(r, 200) if r.random() < 0.5 else None}
+    """A request as the program makes it of a response: five names or more are the node's texts too, and where there is
+    no version the nonce is the error's text too."""
+    names = [some_text(r, 150) for _ in range(r.choice([0, 1, 4, 5, 6]))]
+    if r.random() < 0.4:
+        names[2:5] = [""] * len(names[2:5])
+    version, nonce = r.choice(["", some_text(r)]), some_text(r, 200)
+    return {"kind": r.choice([*KINDS]), "version": version, "nonce": nonce, "names": names,
+            "node": names[:5] if len(names) >= 5 else None, "error": None if version else nonce}
 
 
-def described(request):
-    """The request as the program takes it."""
-    def part(text):
-        return text.encode().hex()
-
-    lines = [f"kind {request['kind']}", f"version {part(request['version'])}", f"nonce {part(request['nonce'])}"]
-    lines += [f"name {part(name)}" for name in request["names"]]
-    if request["node"]:
-        lines.append("node " + ",".join(map(part, request["node"])))
-    if request["error"] is not None:
-        lines.append(f"error {part(request['error'])}")
-    return "".join(line + "\n" for line in lines).encode()
+def source(request):
+    """The response of which the program makes the request."""
+    url = "type.googleapis.com/" + KINDS[request["kind"]]
+    resources = [(name, name.encode()[1:]) for name in request["names"]]
+    return {"version": request["version"], "nonce": request["nonce"], "type_url": url, "resources": resources}
 
 
 def request_text(request):
@@ -132,7 +136,7 @@ def request_text(request):
 
 def try_request(show, r):
     request = some_request(r)
-    body = run([show, "request"], described(request))
+    body = run([show, "request"], protoc("encode", "DiscoveryResponse", response_text(source(request))))
     wanted = protoc("encode", "DiscoveryRequest", request_text(request))
     same = protoc("decode_raw", "", body) == protoc("decode_raw", "", wanted)
     back = protoc("encode", "DiscoveryRequest", protoc("decode", "DiscoveryRequest", body))

@@ -1,7 +1,13 @@
-# tools/built.sh [NAME]: prints the path of a program of this repository, xds_replay where no name is
-# given. It is proved and built first where a source is newer than it. XDS_REPLAY=PROGRAM, or
-# SHOW_DISCOVERY=PROGRAM, gives another program in its place.
+# tools/built.sh [--unproved] [NAME]: prints the path of a program of this repository, xds_replay where no name is given.
+# It is proved and built first where a source that it is made of is newer than it; standard error tells which crate of how
+# many is at work. With --unproved and without a proved program that is new enough, it is built without any proof, and kept
+# in out/unproved. XDS_REPLAY=PROGRAM, and so on with the name in capitals, gives another program in its place.
 set -eu
+proof=yes
+if [ "${1:-}" = --unproved ]; then
+  proof=no
+  shift
+fi
 name=${1:-xds_replay}
 given=$(tr '[:lower:]' '[:upper:]' <<<"$name")
 if [ -n "${!given:-}" ]; then
@@ -9,17 +15,39 @@ if [ -n "${!given:-}" ]; then
   exit
 fi
 cd "$(dirname "$0")/.."
-crate=crates/$name
-program=$crate/out/$name
+program=crates/$name/out/$name
+order=$(python3 tools/crates.py "$name")
+mapfile -t crates <<<"$order"
+
+# newer: a source that the program is made of and that is newer than it.
 newer() {
-  find crates crates.txt -name out -prune -o \
+  find crates.txt "${crates[@]/#/crates/}" -name out -prune -o -name must-fail -prune -o \
     \( -name '*.rt' -o -name '*.antt' -o -name crates.txt \) -newer "$program" -print -quit
 }
-if [ ! -x "$program" ] || [ -n "$(newer)" ]; then
-  mapfile -t words <"$crate/args"
-  (cd "$crate" && rt run -- "${words[@]}" <stdin >/dev/null) || {
-    echo "tools/built.sh: $name isn't built" >&2
-    exit 1
-  }
+
+# prove: proves each crate, lowest first, and builds the program.
+prove() {
+  local count=${#crates[@]} at=0 crate words
+  echo "tools/built.sh: $count crates are proved, at about three minutes each where nothing is proved yet" >&2
+  for crate in "${crates[@]}"; do
+    at=$((at + 1))
+    echo "tools/built.sh: crate $at of $count, $crate" >&2
+    if [ "$crate" = "$name" ]; then
+      mapfile -t words <"crates/$crate/args"
+      (cd "crates/$crate" && rt run -- "${words[@]}" <stdin >/dev/null) || return 1
+    else
+      (cd "crates/$crate" && rt lib) >&2 || return 1
+    fi
+  done
+}
+
+if [ -x "$program" ] && [ -z "$(newer)" ]; then
+  realpath -- "$program"
+elif [ "$proof" = no ]; then
+  python3 tools/try_build.py "$name"
+elif prove; then
+  realpath -- "$program"
+else
+  echo "tools/built.sh: $name isn't built" >&2
+  exit 1
 fi
-realpath -- "$program"

@@ -1,12 +1,19 @@
-"""Writes histories as the crate xds_history writes them down, so that its definitions can be computed on them: each reply
-is made again, each published snapshot is given whole, and what stands at each other driver's entry is the latest one.
+"""Writes histories as the crate legal_history writes them down, so that the definitions can be computed on them: each reply
+is made again, with the texts that were refused as patterns, each published snapshot is given whole, what stands at each
+driver's entry has the number that it has to have, and the entries are those that the session lists, each after its gate.
 
     python3 tools/history_rows.py REFERENCE FOLDER MODULE SESSION..     a file FOLDER/NAME.antt for each session file
+    python3 tools/history_rows.py REFERENCE FOLDER MODULE @LIST         the same for each line `SESSION | WRONG` of a file,
+                                                                        or `NAME = SESSION | WRONG`
     python3 tools/history_rows.py REFERENCE FOLDER MODULE --fuzzed FIRST COUNT MOST
 
 REFERENCE is the folder of the reference program, which plays the sessions. MODULE is the module of the words that the
-files import. With --fuzzed it plays random sessions, by their seeds, of at most MOST entries. Sessions with
-patterns that are accepted are left out.
+files import. In place of SESSION may stand SESSION:START>LINE: the hold of the call that starts at line START stands after
+line LINE, so that its pin is open meanwhile. With --fuzzed it plays random sessions, by their seeds, of at most MOST
+entries. Sessions with patterns that are accepted are left out. Where a frame comes in parts, the lines aren't written.
+WRONG says what the row is to catch. The rows of the repository are those of
+
+    python3 tools/history_rows.py REFERENCE crates/legal_history/proofs/Rows Rattle.legal_history.proofs.Rows @tools/history_rows.txt
 """
 
 import os
@@ -24,7 +31,7 @@ UNREAD = 999  # the payload that can't be read
 
 def imported(imports, body):
     """Of these imports those that the body uses."""
-    words, kept = set(re.findall(r"[\w◌≡∷]+|\[\]", body)), []
+    words, kept = set(re.findall(r"[\w◌≡∷≤-]+|\[\]", body)), []
     for line in imports.splitlines():
         module, names = line.removesuffix("}").split(".{")
         used = [name for name in names.split(", ") if name.strip("◌") in words]
@@ -65,11 +72,21 @@ def truth(b):
     return "true" if b else "false"
 
 
+def nested(terms, last):
+    """Pairs in pairs, as a list of facts has them."""
+    return "".join(f"({term}, " for term in terms) + last + ")" * len(terms)
+
+
+def after(count, base):
+    """A pattern for so many more than the base."""
+    return "(suc " * count + base + ")" * count
+
+
 class Writer:
     """A history, written down."""
 
-    def __init__(self, reference, history, title):
-        self.reference, self.history, self.title = reference, history, title
+    def __init__(self, reference, session, history, title):
+        self.reference, self.session, self.history, self.title = reference, session, history, title
         self.texts, self.values, self.definitions = {}, {}, []
         self.payloads, self.responses, self.checked = {}, [], []
 
@@ -341,16 +358,121 @@ class Writer:
     # ---- the file
 
     def homes(self):
-        for (kind, name, *_), home in self.history.homes.items():
+        for (kind, name, *_), home in sorted(self.history.homes.items(), key=lambda at: at[0][:2]):
             if home != 0:
                 where = f"(Home.At {number(home)})" if isinstance(home, int) else f"(Home.Nowhere NameFault.{NAME_FAULTS[home]})"
                 yield record(kind=KINDS[kind], name=self.text(name), home=where)
 
-    def quiet(self):
+    def steps(self):
+        """For each driver's entry what stands, the snapshot published last before it, and the number, with its fact."""
         for i, entry in enumerate(self.history.H, 1):
-            if isinstance(entry.reply, dict) and entry.reply["snapshot"] is None:
-                latest = self.history.latest(i)
-                yield "None" if latest == 0 else f"Some (shown snapshot{latest})"
+            if isinstance(entry.reply, dict):
+                now, before, number = self.history.latest(i), self.history.latest(i - 1), entry.reply["snapshot"]
+                stands = "None" if now == 0 else f"(Some (shown snapshot{now}))"
+                last = "None" if before == 0 else f"(Some snapshot{before})"
+                fact = f"(refl, are_apart snapshot{now} snapshot{before} refl)" if number is not None and before > 0 else "refl"
+                yield record(stands=stands, last=last, number=optional(number)), fact
+
+    def refused(self):
+        """The texts that were refused as patterns in the history, each once."""
+        texts = [text for e in self.history.H if isinstance(e.reply, dict) for text in e.reply["refused"]]
+        return self.names(dict.fromkeys(texts))
+
+    # ---- the session's lines
+
+    def frames(self, data, rest):
+        """The bytes of a data line, each payload by its place; `rest` tells whether a frame is still open before it."""
+        payloads, after = self.cut(data)
+        if rest or (after and after[0] == 0 and not (len(after) >= 5 and int.from_bytes(after[1:5], "big") > 4194304)):
+            raise LeftOut("a frame in parts")
+        written = [byte for payload in payloads for byte in (0, 0, 0, 0, 1, self.payload(payload))]
+        return listed(map(str, written + list(after)))
+
+    @staticmethod
+    def cut(data):
+        payloads = []
+        while len(data) >= 5 and data[0] == 0 and len(data) - 5 >= int.from_bytes(data[1:5], "big"):
+            end = 5 + int.from_bytes(data[1:5], "big")
+            payloads.append(data[5:end])
+            data = data[end:]
+        return payloads, data
+
+    def driver_line(self, event):
+        kind, *rest = event
+        return {
+            "open": lambda: f"(DriverLine.Opened {number(rest[0])})",
+            "data": lambda: f"(DriverLine.Bytes {number(rest[0])} {self.frames(rest[1], False)})",
+            "lost": lambda: f"(DriverLine.Lost {number(rest[0])})",
+            "time": lambda: f"(DriverLine.Moment {number(rest[0])})",
+            "endpoint": lambda: f"(DriverLine.Endpoint {self.text(rest[0])} {STATES[rest[1]]})",
+            "sweep": lambda: "DriverLine.Sweep",
+        }[kind]()
+
+    def act(self, event):
+        kind, *rest = event
+        if kind == "start":
+            return f"(Act.Start {self.call(rest[0])})"
+        return f"(Act.Pick {number(rest[0])} {rest[1]})" if kind == "pick" else f"(Act.Commit {number(rest[0])})"
+
+    def line(self, line):
+        work = f"(Work.Driver {self.driver_line(line.event)})" if line.caller is None else f"(Work.Caller {line.caller} {self.act(line.event)})"
+        body = record(number=line.number, gate=optional(line.gate), work=work)
+        return f"abbrev line{line.number} : Line\nline{line.number} = {body}\n"
+
+    def made_by(self, caller):
+        """For each line of a caller the places of its entries."""
+        for line in self.session.lines:
+            if line.caller == caller:
+                yield line, [i for i, e in enumerate(self.history.H, 1) if e.actor == caller and e.line == line.number]
+
+    def played(self, caller):
+        """The fact that the entries of a caller are those of its lines."""
+        fact, lines, later = "all", "[]", "[]"
+        for line, places in reversed(list(self.made_by(caller))):
+            now = "".join(f"entry{i} ∷ " for i in places)
+            numbers = f"(All-from_recursion (λ entry. entry.line ≡ {line.number}) ({now}[]) {nested(['refl'] * len(places), 'tt')})"
+            events = {"start": "(inl refl)" if len(places) == 1 else "(inr refl)"}.get(line.event[0], "refl")
+            fact = f"(next line{line.number} ({lines}) ({now}[]) ({later}) {numbers} {events} {fact})"
+            lines, later = f"line{line.number} ∷ {lines}", now + later
+        return fact
+
+    def starts(self, caller):
+        """The fact that a hold follows just each pin that got a snapshot."""
+        facts = ["refl" if e.event[0] == "pin" else "tt" for e in self.history.H if e.actor == caller]
+        return nested(facts, "tt")
+
+    def opens(self):
+        """The fact that each entry of a line with a gate stands after the entry that ends the gate's line."""
+        gates = {line.number: line.gate for line in self.session.lines}
+        return nested(["tt" if gates.get(e.line) is None else "refl" for e in reversed(self.history.H)], "tt")
+
+    def lines(self):
+        """What the session lists, and that the history is legal by it."""
+        callers, count = range(1, self.session.callers + 1), self.session.callers
+        all_lines = "".join(f"line{line.number} ∷ " for line in self.session.lines) + "[]"
+        oldest_first = "".join(f"entry{i} ∷ " for i in range(1, len(self.history.H) + 1)) + "[]"
+        actors = nested([f"at_most {e.actor if isinstance(e.actor, int) else 0} {count} refl" for e in self.history.H], "tt")
+        each = "".join(f"each {after(c, 'zero')} low high = {self.played(c)}\n" for c in callers)
+        return [
+            *map(self.line, self.session.lines),
+            f"abbrev lines : List Line\nlines = {all_lines}\n",
+            f"-- the oldest first\nabbrev entries : List Entry\nentries = {oldest_first}\n",
+            f"-- each line's events once and in order: seen where a line is left out, or comes twice\neach : (caller : ℕ) → 1 ≤ caller → caller ≤ {count} → ArePlayed (lines_by caller lines) (entries_by caller entries)\n"
+            f"each zero low high = absurd (omega (arith, low))\n{each}each {after(count + 1, 'n')} low high = absurd (omega (arith, high))\n",
+            f"-- seen where the driver lists nothing, no responses, or not the last sweep\nlisted : AreListed (is_read set) {count} lines entries\n{LISTING}\n"
+            f"listed = record {{ driver = refl; each_caller = each; actors = All-from_recursion (λ entry. entry.actor ≤ {count}) entries {actors} }}\n",
+            *(f"started{c} : AreStarted (entries_by {c} entries)\nstarted{c} = {self.starts(c)}\n" for c in callers),
+            f"-- seen where a line's end isn't told, so that a gate stays shut\nopened : AreOpen lines history\nopened = {self.opens()}\n",
+            "swept : EndsInSweep history\nswept = refl\n",
+        ]
+
+    def lines_if_whole(self):
+        known = len(self.definitions)
+        try:
+            return self.lines()
+        except LeftOut:
+            del self.definitions[known:]
+            return []
 
     def write(self, imports):
         history = self.history
@@ -360,7 +482,8 @@ class Writer:
         target, host = self.text(history.target[1]), self.text(history.host_text)
         newest_first = "".join(f"entry{i} ∷ " for i in range(len(entries), 0, -1)) + "[]"
         published = "".join(f"snapshot{i} ∷ " for i in range(len(snapshots), 0, -1)) + "[]"
-        quiet = "".join(q + " ∷ " for q in reversed(list(self.quiet()))) + "[]"
+        steps = list(reversed(list(self.steps())))
+        refused, lines = self.refused(), self.lines_if_whole()
         body = "\n".join([
             *self.definitions,
             f"abbrev key : Kind → Name → Key\nkey = key_from {homes}\n",
@@ -369,16 +492,21 @@ class Writer:
             *entries,
             *snapshots,
             f"-- the newest first\nabbrev history : List Entry\nhistory = {newest_first}\n",
-            f"replies : replayed set history ≡ as_made history\n{UNFOLDING}\nreplies = refl\n",
+            f"replies : replayed set {refused} history ≡ as_made history\n{UNFOLDING}\nreplies = refl\n",
             f"published : snapshots set history ≡ {published}\n{UNFOLDING}\npublished = refl\n",
-            f"unpublished : quiet set history ≡ {quiet}\n{UNFOLDING}\nunpublished = refl\n",
+            f"-- what stands at each driver's entry, and its number: seen where the first snapshot isn't 1, where one is published that\n-- shows nothing new, or where one that does isn't\nabbrev told : List Step\ntold = {listed(step for step, _ in steps)}\n",
+            f"stood : steps set history ≡ told\n{UNFOLDING}\nstood = refl\n",
+            f"numbered : AreNumbered told\nnumbered = {nested([fact for _, fact in steps], 'tt')}\n",
+            *lines,
         ])
         return f"-- {self.title}.\n{imported(imports, body)}\n{body}"
 
 
 UNFOLDING = "unfolding leaves_within goes_on ends"
+LISTING = "unfolding driver_list cut cut_within first_frame fault_at"
 
-IMPORTS = """use Rattle.std.specs.Prelude.{◌≡◌, refl, ℕ, pos, negsuc, List, [], ◌∷◌, true, false, Option, Some, None, Ok, Err, codes}
+IMPORTS = """use Rattle.std.proofs.Common.{◌≡◌, ◌≤◌, inl, inr, refl, ℕ, zero, suc, pos, negsuc, List, [], ◌∷◌, true, false, Option, Some, None, Ok, Err, codes, arith}
+use Rattle.std.proofs.lemmas.List.Elements.{All-from_recursion}
 use Rattle.xc_base.specs.declared.names.Kind.{Kind}
 use Rattle.xc_base.specs.declared.names.Key.{Key}
 use Rattle.xc_base.specs.declared.names.Home.{Home}
@@ -394,7 +522,7 @@ use Rattle.xds_config.specs.declared.route_values.PathTest.{PathTest}
 use Rattle.xds_config.specs.declared.route_values.Action.{Action}
 use Rattle.xds_config.specs.declared.cluster_values.Shape.{Shape}
 use Rattle.xds_config.specs.declared.endpoint_values.EndpointValue.{EndpointValue}
-use Rattle.resource_check.specs.declared.fault.Stop.{Stop}
+use Rattle.check_steps.specs.declared.check_fault.Stop.{Stop}
 use Rattle.route_match.specs.declared.answer.RouteAnswer.{RouteAnswer}
 use Rattle.aggregate_expand.specs.Leaves.{goes_on, ends, leaves_within}
 use Rattle.weighted_lb.specs.declared.picker.PickBody.{PickBody}
@@ -405,10 +533,18 @@ use Rattle.call_journal.specs.declared.event.DriverEvent.{DriverEvent}
 use Rattle.call_journal.specs.declared.event.CallerEvent.{CallerEvent}
 use Rattle.call_journal.specs.declared.reply.CallerReply.{CallerReply}
 use Rattle.call_journal.specs.declared.entry.Entry.{Entry}
-use Rattle.dep_manager.specs.Orders.{Name}
+use Rattle.grpc_framing.specs.Cut.{cut, cut_within, first_frame}
+use Rattle.grpc_framing.specs.Framing.{fault_at}
+use Rattle.session_lines.specs.declared.session.DriverLine.{DriverLine}
+use Rattle.session_lines.specs.declared.session.Act.{Act}
+use Rattle.session_lines.specs.declared.session.Work.{Work}
+use Rattle.session_lines.specs.declared.session.Line.{Line}
+use Rattle.session_script.specs.Plan.{driver_list, lines_by, entries_by, ArePlayed, all, next, AreListed}
+use Rattle.config_assembly.specs.Orders.{Name}
 use Rattle.xds_history.specs.Setting.{Setting}
 use Rattle.xds_history.specs.Right.{shown}
-use MODULE.{a_node, response, setting_with, key_from, driven, called, on_line, replayed, as_made, snapshots, quiet}
+use Rattle.legal_history.specs.Legal.{AreOpen, AreStarted, EndsInSweep, is_read}
+use MODULE.{a_node, response, setting_with, key_from, driven, called, on_line, replayed, as_made, snapshots, Step, steps, AreNumbered, are_apart, at_most}
 """
 
 
@@ -421,14 +557,32 @@ def module_of(name):
     return "".join(w.capitalize() for w in name.replace("own.", "").replace("-", "_").split("_"))
 
 
-def put(reference, folder, imports, name, title, history):
+def put(reference, folder, imports, name, title, session, history):
     try:
-        text = Writer(reference, history, title).write(imports)
+        text = Writer(reference, session, history, title).write(imports)
     except LeftOut:
         return False
     with open(os.path.join(folder, f"{name}.antt"), "w", encoding="utf-8") as out:
         out.write(text)
     return True
+
+
+def sessions_of(given):
+    """The sessions that are given, each with its row's name and what the row is to catch, where a list says so."""
+    for word in given:
+        if not word.startswith("@"):
+            yield word, name_of(word), ""
+            continue
+        with open(word[1:], encoding="utf-8") as file:
+            for line in file:
+                session, _, wrong = line.strip().partition(" | ")
+                name, _, session = session.rpartition(" = ")
+                yield session, name or name_of(session), wrong
+
+
+def name_of(session):
+    """The name of a session's row: that of its file."""
+    return os.path.basename(session.partition(":")[0]).removesuffix(".session")
 
 
 def main():
@@ -439,17 +593,26 @@ def main():
         first, count, most = map(int, rest[1:])
         for seed in range(first, first + count):
             try:
-                history = reference.history(reference.fuzz(seed))
+                session = reference.read_session(reference.fuzz(seed))
+                history = reference.play(session)
             except reference.SessionFault:
                 continue
-            if 10 <= len(history.H) <= most and put(reference, folder, imports, f"F{seed}", f"Random session {seed}", history):
+            if 10 <= len(history.H) <= most and put(reference, folder, imports, f"F{seed}", f"Random session {seed}", session, history):
                 made.append(f"F{seed}")
     else:
-        for path in rest:
-            name = os.path.basename(path).removesuffix(".session")
+        for given, name, wrong in sessions_of(rest):
+            path, _, hold = given.partition(":")
+            title = f"{title_of(name)}: written by tools/history_rows.py from {path}"
             with open(path, "rb") as file:
-                history = reference.history(file.read())
-            if put(reference, folder, imports, module_of(name), title_of(name), history):
+                session = reference.read_session(file.read())
+            holds = {}
+            if hold:
+                start, line = map(int, hold.split(">"))
+                holds[start] = line
+                title += f", where the hold of line {start} stands after line {line}"
+            title += f".\n-- It is to catch: {wrong}" if wrong else ""
+            history = reference.history_with(session, holds)
+            if put(reference, folder, imports, module_of(name), title, session, history):
                 made.append(module_of(name))
     print("\n".join(made))
 

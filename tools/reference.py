@@ -15,16 +15,39 @@ class Reference:
         sys.dont_write_bytecode = True
         sys.setrecursionlimit(10_000)
         sys.path.insert(0, str(pathlib.Path(folder).resolve()))
-        check, fuzz, patterns, play, report, session, wire = map(
-            importlib.import_module, ("check", "fuzz", "patterns", "play", "report", "session", "wire"))
+        check, fuzz, history, patterns, play, report, session, wire = map(
+            importlib.import_module, ("check", "fuzz", "history", "patterns", "play", "report", "session", "wire"))
         self.check, self.Asked = check.check, patterns.Asked
         self.URLS, self.Unreadable, self.read = wire.URLS, wire.Unreadable, wire.read
         self.read_session, self.SessionFault, self.room = session.read_session, session.SessionFault, session.room
         self.fuzz, self.play, self.report = fuzz.fuzz, play.play, report.report
+        self.History, self.driver_events, self.readable = history.History, session.driver_events, play.readable
 
     def history(self, text):
         """What playing a session gives."""
         return self.play(self.read_session(text))
+
+    def history_with(self, session, holds):
+        """What playing a session gives where the hold of a call that starts at a line stands after a later line, by `holds`."""
+        history, events, waiting = self.History(session.boot, session.target, session.host), {}, {}
+        for number, event in self.driver_events(session, self.readable):
+            events.setdefault(number, []).append(event)
+        for line in session.lines:
+            kind, *rest = line.event
+            if line.caller is None:
+                for event in events[line.number]:
+                    history.apply(line.number, event)
+            elif kind == "start":
+                if history.pin(line.caller, line.number, rest[0]) is not None:
+                    waiting.setdefault(holds.get(line.number, line.number), []).append(line)
+            elif kind == "pick":
+                history.pick(line.caller, line.number, *rest)
+            else:
+                history.commit(line.caller, line.number, *rest)
+            for start in waiting.pop(line.number, []):
+                history.hold(start.caller, start.number, start.event[1])
+        history.apply(0, ("sweep",))
+        return history
 
     def whole_session(self, number):
         """The random session of a number, for the whole client."""

@@ -6,15 +6,15 @@ use Rattle.proto_discovery.specs.declared.request.Request.{Request}
 use Rattle.xc_base.specs.declared.call.Node.{Node}
 use Rattle.xc_base.specs.declared.names.Kind.{Kind}
 use Rattle.xc_base.specs.declared.names.Kind.TheVariants.{Listener, Route, Cluster, Endpoint}
-use Rattle.ads_stream.specs.declared.names.Names.{Names}
+use Rattle.ads_stream.specs.declared.request_names.Names.{Names}
 use Rattle.ads_stream.specs.declared.stream.StreamState.{StreamState}
 use Rattle.ads_stream.specs.declared.subscription.Answer.{Answer}
 use Rattle.ads_stream.specs.declared.subscription.Subscription.{Subscription}
 use Rattle.ads_stream.specs.declared.verdict.Verdict.{Verdict}
 use Rattle.ads_stream.specs.declared.verdict.Verdict.TheVariants.{Closed, Ignored}
-use Rattle.ads_stream.specs.Streams as step
-use Rattle.ads_stream.specs.Streams.{Text, is_due, of_kind, with_kind, answered, verdict_by, with_request, requests_on, asked_with, asked_for}
-use Rattle.ads_stream.specs.Calls.{Event, opened, lost, response, names, After, is_up, is_kind, names_in, version, nonce, asked, answer_to, answer, is_greeted, subscription, state_by, AreAnswered, FollowCalls}
+use Rattle.ads_stream.specs.StreamSteps as step
+use Rattle.ads_stream.specs.StreamSteps.{Text, is_due, of_kind, with_kind, with_response, verdict_by, with_request, requests_on, names_after_request, after_request}
+use Rattle.ads_stream.specs.StreamCalls.{Event, opened, lost, response, names, After, is_up, is_kind, names_in, version, nonce, asked, answer_to, answer, is_greeted, subscription, state_by, AreAnswered, FollowCalls}
 
 -- ---- the names of the requests that are due
 
@@ -88,7 +88,7 @@ or_if true ns o = refl
 or_if false ns o = refl
 
 asked_since : (kind : Kind) (past : List Event) (watched : Names) (requests : List Request) (ns : List Text) → names_in kind requests ≡ cond (is_due (subscription kind past) ns) (Some ns) None →
-    subscription kind (names watched requests ∷ past) ≡ asked_for (subscription kind past) ns
+    subscription kind (names watched requests ∷ past) ≡ after_request (subscription kind past) ns
 asked_since kind past watched requests ns is =
     let make : Option (List Text) → Subscription = λ o. record { version = version kind past; nonce = nonce kind past; asked = o; answer = None } in
     ap (λ o. make (option_or o (asked kind past))) is ∙ ap make (or_if (is_due (subscription kind past) ns) ns (asked kind past))
@@ -112,7 +112,7 @@ with_itself state Cluster = refl
 with_itself state Endpoint = refl
 
 answers_one : (node : Node) (past : List Event) (kind : Kind) (v n : Text) (error : Option Text) →
-    state_by node (response kind v n error (verdict_by kind error) ∷ past) ≡ with_kind (state_by node past) kind (answered (of_kind (state_by node past) kind) v n error)
+    state_by node (response kind v n error (verdict_by kind error) ∷ past) ≡ with_kind (state_by node past) kind (with_response (of_kind (state_by node past) kind) v n error)
 answers_one node past Listener v n None = refl
 answers_one node past Listener v n (Some error) = refl
 answers_one node past Route v n None = refl
@@ -124,7 +124,7 @@ answers_one node past Endpoint v n (Some error) = refl
 
 taken : (up asks : Bool) (node : Node) (past : List Event) (kind : Kind) (v n : Text) (error : Option Text) (verdict : Verdict) → verdict ≡ cond up (cond asks (verdict_by kind error) Ignored) Closed →
     state_by node (response kind v n error verdict ∷ past) ≡
-    cond up (with_kind (state_by node past) kind (cond asks (answered (of_kind (state_by node past) kind) v n error) (of_kind (state_by node past) kind))) (state_by node past)
+    cond up (with_kind (state_by node past) kind (cond asks (with_response (of_kind (state_by node past) kind) v n error) (of_kind (state_by node past) kind))) (state_by node past)
 taken false asks node past kind v n error verdict is = ap (λ w. state_by node (response kind v n error w ∷ past)) is
 taken true false node past kind v n error verdict is = ap (λ w. state_by node (response kind v n error w ∷ past)) is ∙ sym (with_itself (state_by node past) kind)
 taken true true node past kind v n error verdict is = ap (λ w. state_by node (response kind v n error w ∷ past)) is ∙ answers_one node past kind v n error
@@ -148,9 +148,9 @@ or_false : (b : Bool) → b || false ≡ b
 or_false true = refl
 or_false false = refl
 
-told : (up : Bool) (node : Node) (past : List Event) (watched : Names) (requests : List Request) → is_up past ≡ up → AreAnswered node past →
+state_after_requests : (up : Bool) (node : Node) (past : List Event) (watched : Names) (requests : List Request) → is_up past ≡ up → AreAnswered node past →
     requests ≡ cond up (requests_on (state_by node past) watched) [] → state_by node (names watched requests ∷ past) ≡ cond up (step.names_sent (state_by node past) watched) (state_by node past)
-told true node past watched requests up answers is =
+state_after_requests true node past watched requests up answers is =
     let state = state_by node past in
     ap (λ rs. state_by node (names watched rs ∷ past)) is
     ∙ same_parts node (is_up past) _ _ _ _ _ _ _ _ _ _ refl
@@ -158,7 +158,7 @@ told true node past watched requests up answers is =
     (asked_since Route past watched (requests_on state watched) watched.route (route_names state watched))
     (asked_since Cluster past watched (requests_on state watched) watched.cluster (cluster_names state watched))
     (asked_since Endpoint past watched (requests_on state watched) watched.endpoint (endpoint_names state watched))
-told false node past watched requests down answers is =
+state_after_requests false node past watched requests down answers is =
     ap (λ rs. state_by node (names watched rs ∷ past)) is
     ∙ same_parts node (is_up past) _ _ _ _ _ _ _ _ _ _ (or_false (is_greeted past))
     (untold node past Listener watched answers down) (untold node past Route watched answers down) (untold node past Cluster watched answers down) (untold node past Endpoint watched answers down)
@@ -185,5 +185,5 @@ follow_calls node (names watched requests ∷ past) state (before, after, (was, 
     let told_is : requests ≡ step.requests_due (state_by node past) watched = was ∙ ap (λ s. step.requests_due s watched) earlier.stands in
     record {
       answers = (told_is, earlier.answers);
-      stands = is ∙ ap (λ s. step.names_told s watched) earlier.stands ∙ sym (told (is_up past) node past watched requests refl earlier.answers told_is);
+      stands = is ∙ ap (λ s. step.names_told s watched) earlier.stands ∙ sym (state_after_requests (is_up past) node past watched requests refl earlier.answers told_is);
     }

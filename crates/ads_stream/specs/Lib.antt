@@ -1,2 +1,2 @@
-pub mod Calls
-pub mod Streams
+pub mod StreamCalls
+pub mod StreamSteps

@@ -1,9 +1,9 @@
 //! The stream of one authority.
-ghost use Rattle.std.specs.Prelude.{◌≡◌, IfOk, OnOk, OnErr};
+ghost use Rattle.std.specs.Prelude.{◌≡◌, IfOk, OnOk, OnErr, is_some};
 ghost use Rattle.std.specs.Option.{option_copied};
-ghost use Rattle.ads_stream.specs.Streams.{unopened, restarted, opened, lost, of_kind, verdict_of, response_taken, greeting, with_request, told, requests_due, names_told};
+ghost use Rattle.ads_stream.specs.StreamSteps.{unopened, restarted, opened, lost, of_kind, verdict_of, response_taken, greeting, with_request, state_after_requests, requests_due, names_told};
 
-use crate::names::Names;
+use crate::request_names::Names;
 use crate::subscription::Subscription;
 use crate::verdict::Verdict;
 use proto_discovery::Request;
@@ -12,21 +12,26 @@ use std::marker::Model;
 use xc_base::{Kind, List, Memory, Node, Text};
 
 /// Where a stream stands.
-#[derive(Debug, Drop)]
+#[derive(Drop)]
 pub struct StreamState {
     /// Who asks.
     pub node: Node,
+    /// Whether the stream is open.
     pub is_up: bool,
     /// Whether a request was sent on it, the first of which tells the node.
     pub is_greeted: bool,
+    /// What it knows of Listener resources.
     pub listener: Subscription,
+    /// What it knows of Route resources.
     pub route: Subscription,
+    /// What it knows of Cluster resources.
     pub cluster: Subscription,
+    /// What it knows of Endpoint resources.
     pub endpoint: Subscription,
 }
 
 impl StreamState {
-    // What is known of one kind.
+    /// What the stream knows of one kind.
     fn of(&self, kind: Kind) -> &Subscription
         ensures { result.now ≡ of_kind self.now kind }
     {
@@ -38,23 +43,23 @@ impl StreamState {
         }
     }
 
-    // The same once the requests for these names have been sent.
-    fn told(
+    /// Where the stream stands once the requests for these names have been sent.
+    fn state_after_requests(
         &self,
         alloc: Global,
         now_watched: &Names,
         is_greeted: bool,
     ) -> Result<StreamState, Memory>
-        ensures { IfOk result (λ state. state ≡ told self.now now_watched.now is_greeted) }
+        ensures { IfOk result (λ state. state ≡ state_after_requests self.now now_watched.now is_greeted) }
     {
         Ok(StreamState {
             node: self.node.clone()?,
             is_up: self.is_up,
             is_greeted,
-            listener: self.listener.asked_for(alloc, &now_watched.listener)?,
-            route: self.route.asked_for(alloc, &now_watched.route)?,
-            cluster: self.cluster.asked_for(alloc, &now_watched.cluster)?,
-            endpoint: self.endpoint.asked_for(alloc, &now_watched.endpoint)?,
+            listener: self.listener.after_request(alloc, &now_watched.listener)?,
+            route: self.route.after_request(alloc, &now_watched.route)?,
+            cluster: self.cluster.after_request(alloc, &now_watched.cluster)?,
+            endpoint: self.endpoint.after_request(alloc, &now_watched.endpoint)?,
         })
     }
 }
@@ -101,7 +106,14 @@ impl Stream {
         self.state.is_up
     }
 
-    // Forgets what was of the stream.
+    /// Whether resources of the kind were asked for on the open stream. A response of another kind is ignored.
+    pub fn is_asked(&self, kind: Kind) -> bool
+        ensures { result ≡ is_some (of_kind self.now kind).asked }
+    {
+        self.state.of(kind).asked.is_some()
+    }
+
+    /// Forgets the nonces and the names of the stream, and keeps the versions.
     fn restart(&mut self, is_up: bool)
         ensures { self.new ≡ restarted self.old is_up }
     {
@@ -133,7 +145,7 @@ impl Stream {
 
     /// Takes in a response, with the text of the refusal where one of its resources is refused. It is closed exactly
     /// where the stream isn't open, else ignored exactly where nothing of the kind was asked for on it, and else
-    /// refused exactly where an error is given.
+    /// refused exactly where an error is given. Without memory nothing changes.
     pub fn response(
         &mut self,
         kind: Kind,
@@ -156,7 +168,7 @@ impl Stream {
         }
     }
 
-    // The node, where this is the first request on the stream.
+    /// The node where these requests are none and none was sent before, since the next one is the first on the stream.
     fn greeting(&self, before: &List<Request>) -> Result<Option<Node>, Memory>
         ensures { IfOk result (λ node. node ≡ greeting self.now before.now) }
     {
@@ -167,7 +179,7 @@ impl Stream {
         }
     }
 
-    // Adds the request of this kind, where one is due.
+    /// Adds the request of this kind to those before it, where one is due.
     fn add_request(
         &self,
         kind: Kind,
@@ -184,7 +196,7 @@ impl Stream {
         Ok(())
     }
 
-    // The requests that are due.
+    /// The requests that are due, by kind.
     fn requests(&self, now_watched: &Names) -> Result<List<Request>, Memory>
         ensures { IfOk result (λ requests. requests ≡ requests_due self.now now_watched.now) }
     {
@@ -201,7 +213,8 @@ impl Stream {
     /// The requests that are due, by kind: where a response of the kind was answered since the last `names`, or where
     /// the names differ from those of the last request on this stream. Each has the version of the last accepted
     /// response, the nonce of the last answered one on this stream, the names, and the text of a refusal; the
-    /// first on the stream has the node. There are none where the stream isn't open.
+    /// first on the stream has the node. There are none where the stream isn't open. Without memory nothing changes, and
+    /// nothing counts as sent.
     pub fn names(&mut self, now_watched: &Names) -> Result<List<Request>, Memory>
         ensures due { IfOk result (λ requests. requests ≡ requests_due self.old now_watched.now) }
         ensures ok { OnOk result (self.new ≡ names_told self.old now_watched.now) }
@@ -212,7 +225,9 @@ impl Stream {
             return Ok(requests);
         }
         let is_greeted = self.state.is_greeted || !requests.as_slice().is_empty();
-        self.state = self.state.told(self.alloc, now_watched, is_greeted)?;
+        self.state = self
+            .state
+            .state_after_requests(self.alloc, now_watched, is_greeted)?;
         Ok(requests)
     }
 }

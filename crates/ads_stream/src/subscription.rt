@@ -1,7 +1,7 @@
 //! What is known of one kind of resources on a stream.
 ghost use Rattle.std.specs.Prelude.{◌≡◌, [], IfOk, OnOk, OnErr};
 ghost use Rattle.std.specs.Option.{option_copied};
-ghost use Rattle.ads_stream.specs.Streams.{fresh, reopened, verdict_by, verdict_on, version_after, answered, responded, differs, is_due, error_of, request_of, asked_with, asked_for};
+ghost use Rattle.ads_stream.specs.StreamSteps.{fresh, reopened, verdict_by, verdict_on, version_after, with_response, responded, differs, is_due, error_of, request_of, names_after_request, after_request};
 
 use crate::verdict::Verdict;
 use proto_discovery::Request;
@@ -10,14 +10,14 @@ use std::mem::replace;
 use xc_base::{Kind, List, Memory, Node, Shared, Text};
 
 /// The answer to a response that hasn't been sent.
-#[derive(Debug, Drop)]
+#[derive(Drop)]
 pub struct Answer {
     /// The text of the refusal, where the response is refused.
     pub error: Option<Text>,
 }
 
 /// What a stream knows of one kind of resources.
-#[derive(Debug, Drop)]
+#[derive(Drop)]
 pub struct Subscription {
     /// The version of the last accepted response, on whichever stream, or empty before any.
     pub version: Text,
@@ -29,14 +29,14 @@ pub struct Subscription {
     pub answer: Option<Answer>,
 }
 
-// A copy of the names.
+/// A copy of the names.
 fn copy_of(names: &List<Text>) -> Result<List<Text>, Memory>
     ensures { IfOk result (λ copy. copy ≡ names.now) }
 {
     names.clone()
 }
 
-// The answer to a response.
+/// The answer to a response.
 fn answer_to(error: Option<&Text>) -> Result<Answer, Memory>
     ensures { IfOk result (λ answer. answer ≡ record { error = option_copied error.entry }) }
 {
@@ -48,7 +48,7 @@ fn answer_to(error: Option<&Text>) -> Result<Answer, Memory>
     }
 }
 
-// What becomes of a response that is answered.
+/// What becomes of a response that is answered.
 fn verdict_by(kind: Kind, error: Option<&Text>) -> Verdict
     ensures { result ≡ verdict_by kind (option_copied error.entry) }
 {
@@ -82,7 +82,7 @@ impl Subscription {
         };
     }
 
-    // The version after an answered response.
+    /// The version of the last accepted response once this one is answered.
     fn version_after(&self, version: &Text, error: Option<&Text>) -> Result<Text, Memory>
         ensures { IfOk result (λ text. text ≡ version_after self.now.version version.now (option_copied error.entry)) }
     {
@@ -92,14 +92,14 @@ impl Subscription {
         }
     }
 
-    // The same after an answered response.
-    fn answered(
+    /// What is known once this response is answered.
+    fn with_response(
         &self,
         version: &Text,
         nonce: &Text,
         error: Option<&Text>,
     ) -> Result<Subscription, Memory>
-        ensures { IfOk result (λ s. s ≡ answered self.now version.now nonce.now (option_copied error.entry)) }
+        ensures { IfOk result (λ s. s ≡ with_response self.now version.now nonce.now (option_copied error.entry)) }
     {
         Ok(Subscription {
             version: self.version_after(version, error)?,
@@ -125,11 +125,11 @@ impl Subscription {
         if self.asked.is_none() {
             return Ok(Verdict::Ignored);
         }
-        *self = self.answered(version, nonce, error)?;
+        *self = self.with_response(version, nonce, error)?;
         Ok(verdict_by(kind, error))
     }
 
-    // Whether the names aren't those that were sent last.
+    /// Whether the names differ from those that were sent last. Before any request those are none.
     fn differs(&self, names: &List<Text>) -> bool
         ensures { result ≡ differs self.now.asked names.now }
     {
@@ -146,7 +146,7 @@ impl Subscription {
         self.answer.is_some() || self.differs(names)
     }
 
-    // The text of the refusal that is due.
+    /// The text of the refusal that is to be sent, where there is one.
     fn error(&self) -> Result<Option<Text>, Memory>
         ensures { IfOk result (λ error. error ≡ error_of self.now) }
     {
@@ -175,13 +175,13 @@ impl Subscription {
         })
     }
 
-    // The names that were sent last, where these are sent if a request is due.
-    fn asked_with(
+    /// The names that were sent last, once these are sent where a request is due.
+    fn names_after_request(
         &self,
         alloc: Global,
         names: &List<Text>,
     ) -> Result<Option<Shared<List<Text>>>, Memory>
-        ensures { IfOk result (λ asked. asked ≡ asked_with self.now names.now) }
+        ensures { IfOk result (λ asked. asked ≡ names_after_request self.now names.now) }
     {
         if self.is_due(names) {
             Ok(Some(Shared::new(alloc, copy_of(names)?)?))
@@ -190,18 +190,18 @@ impl Subscription {
         }
     }
 
-    /// The same once the request that is due has been sent.
-    pub(crate) fn asked_for(
+    /// What is known once the request that is due has been sent.
+    pub(crate) fn after_request(
         &self,
         alloc: Global,
         names: &List<Text>,
     ) -> Result<Subscription, Memory>
-        ensures { IfOk result (λ s. s ≡ asked_for self.now names.now) }
+        ensures { IfOk result (λ s. s ≡ after_request self.now names.now) }
     {
         Ok(Subscription {
             version: self.version.clone()?,
             nonce: self.nonce.clone()?,
-            asked: self.asked_with(alloc, names)?,
+            asked: self.names_after_request(alloc, names)?,
             answer: None,
         })
     }

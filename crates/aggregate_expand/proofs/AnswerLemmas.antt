@@ -1,8 +1,8 @@
 -- What the walk found is what the cluster stands for.
 use Rattle.std.proofs.Common.{◌≡◌, ℕ, List, [], true, false, sym, ◌∙◌, ap}
 use Rattle.std.specs.Prelude.{Ok, Err, if◌then◌else◌}
-use Rattle.aggregate_expand.specs.declared.fault.ExpandFault.TheVariants.{Depth}
-use Rattle.aggregate_expand.specs.Names.{Name, with_names}
+use Rattle.aggregate_expand.specs.declared.expand_fault.ExpandFault.TheVariants.{Depth}
+use Rattle.aggregate_expand.specs.LookedUp.{Name, with_names}
 use Rattle.aggregate_expand.specs.Chains.{Table}
 use Rattle.aggregate_expand.specs.Leaves.{goes_on, ends, leaves_within}
 

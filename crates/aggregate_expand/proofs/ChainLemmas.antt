@@ -6,7 +6,7 @@ use Rattle.std.proofs.lemmas.Bool.{true≢false}
 use Rattle.std.proofs.lemmas.Map.Keys.{any_passes_from_place}
 use Rattle.std.proofs.lemmas.Option.{slice_get-get_or}
 use Rattle.std.proofs.lemmas.List.Folds.{Any-from_list_any}
-use Rattle.aggregate_expand.specs.Names.{Name}
+use Rattle.aggregate_expand.specs.LookedUp.{Name}
 use Rattle.aggregate_expand.specs.Chains.{Table, led_to, HasChain}
 use Rattle.aggregate_expand.specs.Leaves.{goes_on, any_child}
 

@@ -7,7 +7,7 @@ use Rattle.std.specs.Cmp.Lexicographic.{slice_cmp, nat_list_eq_equiv}
 use Rattle.std.proofs.lemmas.List.Folds.{list_any-append}
 use Rattle.std.proofs.lemmas.Map.Text.{is_eq-slice_cmp}
 use Rattle.std.proofs.lemmas.Slice.Eq.{bytes_eq-Decides}
-use Rattle.aggregate_expand.specs.Names.{Name, has_name}
+use Rattle.aggregate_expand.specs.LookedUp.{Name, has_name}
 
 -- whether a set of names has the name
 abbrev pub in_keys : List Name → Name → Bool

@@ -2,11 +2,11 @@
 use Rattle.std.proofs.Common.{◌≡◌, ◌<◌, ℕ, zero, suc, ◌+◌, List, [], ◌∷◌, ◌++◌, Bool, true, false, ◌||◌, refl, ◌∙◌, ap, arith, length, Option, Some, None}
 use Rattle.std.specs.Prelude.{◌↔◌, Ok, Err, if◌then◌else◌, slice_get, option_and_then}
 use Rattle.std.specs.List.{list_any, flat_map}
-use Rattle.aggregate_expand.specs.declared.fault.ExpandFault.TheVariants.{Depth}
-use Rattle.aggregate_expand.specs.Names.{Name, with_names}
+use Rattle.aggregate_expand.specs.declared.expand_fault.ExpandFault.TheVariants.{Depth}
+use Rattle.aggregate_expand.specs.LookedUp.{Name, with_names}
 use Rattle.aggregate_expand.specs.Chains.{Table, led_to, HasChain, AreLeaves}
 use Rattle.aggregate_expand.specs.Leaves.{goes_on, ends, any_child, or_children, leaves_within}
-use Rattle.aggregate_expand.specs.Laws.{AreLedTo, AgreeOnChains}
+use Rattle.aggregate_expand.specs.LeafLaws.{AreLedTo, AgreeOnChains}
 use Rattle.aggregate_expand.proofs.ChainLemmas.{has_chain, no_chain}
 use Rattle.aggregate_expand.proofs.PathLemmas.{by_paths}
 use Rattle.aggregate_expand.proofs.OnlyLemmas.{leaves_are_one}

@@ -6,7 +6,7 @@ use Rattle.std.specs.Str.{bytes_eq}
 use Rattle.std.proofs.lemmas.List.Folds.{list_any-append}
 use Rattle.std.proofs.lemmas.Bool.{or_left, or_right, and_parts, and_from}
 use Rattle.std.proofs.lemmas.Slice.Eq.{bytes_eq-Decides}
-use Rattle.aggregate_expand.specs.Names.{Name, has_name, with_names}
+use Rattle.aggregate_expand.specs.LookedUp.{Name, has_name, with_names}
 
 -- a longer list has_name more
 pub has_left : (xs ys : List Name) (x : Name) → has_name xs x ≡ true → has_name (xs ++ ys) x ≡ true

@@ -11,7 +11,7 @@ use Rattle.std.proofs.lemmas.Cmp.{nat_list_cmp_total}
 use Rattle.std.proofs.lemmas.List.{get_or-append-add}
 use Rattle.std.proofs.lemmas.List.Folds.{list_any-append}
 use Rattle.std.proofs.lemmas.Slice.Eq.{bytes_eq-Decides}
-use Rattle.aggregate_expand.specs.Names.{Name, has_name, with_names}
+use Rattle.aggregate_expand.specs.LookedUp.{Name, has_name, with_names}
 use Rattle.aggregate_expand.specs.Chains.{Table, LeadsTo, IsBefore, AreLeaves}
 use Rattle.aggregate_expand.specs.Leaves.{goes_on, ends}
 use Rattle.aggregate_expand.proofs.NameLemmas.{with_name, has_left, has_last}

@@ -5,7 +5,7 @@ use Rattle.std.specs.Str.{bytes_eq}
 use Rattle.std.proofs.lemmas.Bool.{true≢false, cases_lt}
 use Rattle.std.proofs.lemmas.List.Folds.{Any-from_list_any}
 use Rattle.std.proofs.lemmas.Slice.Eq.{bytes_eq-Decides}
-use Rattle.aggregate_expand.specs.Names.{Name, has_name, with_names}
+use Rattle.aggregate_expand.specs.LookedUp.{Name, has_name, with_names}
 use Rattle.aggregate_expand.specs.Chains.{Table, LeadsTo, AreLeaves}
 use Rattle.aggregate_expand.specs.Leaves.{goes_on, ends}
 use Rattle.aggregate_expand.proofs.PlaceLemmas.{In, Placed, placed, names, leads, listed, ascends}

@@ -8,7 +8,7 @@ use Rattle.std.specs.Cmp.Lexicographic.{slice_cmp}
 use Rattle.std.specs.Cmp.{nat_cmp_is}
 use Rattle.std.proofs.lemmas.Cmp.{tied_itself, nat_cmp_total}
 use Rattle.std.proofs.lemmas.List.{map-append}
-use Rattle.aggregate_expand.specs.Names.{Name}
+use Rattle.aggregate_expand.specs.LookedUp.{Name}
 use Rattle.aggregate_expand.specs.Chains.{Table, led_to, LeadsTo, IsBefore}
 use Rattle.aggregate_expand.specs.Leaves.{ends, or_children}
 

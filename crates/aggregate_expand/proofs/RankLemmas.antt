@@ -6,7 +6,7 @@ use Rattle.std.proofs.lemmas.Bool.{or_cases, true≢false}
 use Rattle.std.proofs.lemmas.List.Folds.{list_any-append, list_any_at}
 use Rattle.std.proofs.lemmas.List.Quantifiers.{all_pairs_push}
 use Rattle.std.proofs.lemmas.Slice.Eq.{bytes_eq-Decides}
-use Rattle.aggregate_expand.specs.Names.{Name, has_name, with_names}
+use Rattle.aggregate_expand.specs.LookedUp.{Name, has_name, with_names}
 use Rattle.aggregate_expand.specs.Chains.{IsBefore}
 use Rattle.aggregate_expand.proofs.NameLemmas.{has_left, has_last, with_name}
 use Rattle.aggregate_expand.proofs.PlaceLemmas.{In, Placed, second, Ascends}

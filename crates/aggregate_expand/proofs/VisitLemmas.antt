@@ -9,10 +9,10 @@ use Rattle.std.proofs.lemmas.Cmp.{tied_itself, nat_cmp_total, nat_list_cmp_total
 use Rattle.std.proofs.lemmas.List.Folds.{list_any_at}
 use Rattle.std.proofs.lemmas.Map.Keys.{apart_from_distinct, IsDistinct-from_sorted}
 use Rattle.aggregate_expand.specs.declared.visits.Visit.{Visit}
-use Rattle.aggregate_expand.specs.Names.{Name}
+use Rattle.aggregate_expand.specs.LookedUp.{Name}
 use Rattle.aggregate_expand.specs.Chains.{Table, longest_chain}
 use Rattle.aggregate_expand.specs.LookUps.{IsOnChain, CountsLookUps}
-use Rattle.aggregate_expand.specs.Walk.{Marks, is_visit, is_visited, visit_cmp, AddsOnChains}
+use Rattle.aggregate_expand.specs.LeafWalk.{Marks, is_visit, is_visited, visit_cmp, AddsOnChains}
 use Rattle.aggregate_expand.proofs.WalkLemmas.{HasMarked}
 
 pub marks_from : (old new : List Visit) (given name : Name) (chain_length : ℕ) (is_new : Bool) → given ≡ name → is_new ≡ true → is_new ≡ not (is_visited old record { name = given; chain_length = chain_length })

@@ -12,11 +12,11 @@ use Rattle.std.proofs.lemmas.List.{drop_more, drop_all}
 use Rattle.std.proofs.lemmas.Map.Text.{is_eq-slice_cmp}
 use Rattle.std.proofs.lemmas.Option.{slice_get-get_or}
 use Rattle.std.proofs.lemmas.Slice.Eq.{bytes_eq-Decides}
-use Rattle.aggregate_expand.specs.Names.{Name, has_name, with_names}
+use Rattle.aggregate_expand.specs.LookedUp.{Name, has_name, with_names}
 use Rattle.aggregate_expand.specs.Chains.{Table, longest_chain, led_to}
 use Rattle.aggregate_expand.specs.Leaves.{goes_on, ends, any_child, or_children}
 use Rattle.aggregate_expand.specs.LookUps.{IsOnChain}
-use Rattle.aggregate_expand.specs.Walk.{Marks, room_at, is_visit, is_visited, AddsOnChains, AreDone}
+use Rattle.aggregate_expand.specs.LeafWalk.{Marks, room_at, is_visit, is_visited, AddsOnChains, AreDone}
 use Rattle.aggregate_expand.specs.declared.visits.Visit.{Visit}
 use Rattle.aggregate_expand.proofs.NameLemmas.{keeps, added_all, all_more, added_same, with_names-append}
 

@@ -4,7 +4,7 @@ use Rattle.std.specs.Prelude.{◌≡◌, ◌≢◌, ℕ, ◌+◌, List, [], ◌�
 use Rattle.std.specs.declared.cmp.Ordering.TheVariants.{Less}
 use Rattle.std.specs.Ordering.{nat_cmp}
 use Rattle.std.specs.Cmp.Lexicographic.{slice_cmp}
-use Rattle.aggregate_expand.specs.Names.{Name}
+use Rattle.aggregate_expand.specs.LookedUp.{Name}
 
 -- the children of each aggregate, and none for what is no aggregate
 abbrev pub Table : Type 0

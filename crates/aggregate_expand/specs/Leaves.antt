@@ -1,9 +1,9 @@
 -- The leaves of a cluster, computed. A law says that they are those to which child places lead.
 use Rattle.std.specs.Prelude.{ℕ, zero, suc, List, [], ◌∷◌, Bool, true, false, Option, Some, None, Result, Ok, Err, if◌then◌else◌}
 use Rattle.std.specs.List.{list_any, flat_map}
-use Rattle.aggregate_expand.specs.declared.fault.ExpandFault.{ExpandFault}
-use Rattle.aggregate_expand.specs.declared.fault.ExpandFault.TheVariants.{Depth}
-use Rattle.aggregate_expand.specs.Names.{Name, with_names}
+use Rattle.aggregate_expand.specs.declared.expand_fault.ExpandFault.{ExpandFault}
+use Rattle.aggregate_expand.specs.declared.expand_fault.ExpandFault.TheVariants.{Depth}
+use Rattle.aggregate_expand.specs.LookedUp.{Name, with_names}
 use Rattle.aggregate_expand.specs.Chains.{Table, longest_chain}
 
 -- whether a test holds for a child

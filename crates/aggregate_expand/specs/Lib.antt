@@ -1,6 +1,6 @@
 pub mod Chains
 pub mod Leaves
-pub mod Laws
+pub mod LeafLaws
 pub mod LookUps
-pub mod Names
-pub mod Walk
+pub mod LookedUp
+pub mod LeafWalk

@@ -1,7 +1,7 @@
 -- Which pairs of a cluster and a chain length are looked up, one step each.
 use Rattle.std.specs.Prelude.{◌≡◌, ◌≢◌, ℕ, ◌+◌, ◌≤◌, List, Some, length, All, AllPairs}
 use Rattle.aggregate_expand.specs.declared.visits.Visit.{Visit}
-use Rattle.aggregate_expand.specs.Names.{Name}
+use Rattle.aggregate_expand.specs.LookedUp.{Name}
 use Rattle.aggregate_expand.specs.Chains.{Table, longest_chain, led_to}
 
 -- a chain from the cluster, whose place in a longer one is given, has the visit's length and ends with its

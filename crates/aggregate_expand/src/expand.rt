@@ -1,13 +1,13 @@
 //! The leaves of a cluster.
 ghost use Rattle.std.specs.Prelude.{◌≡◌, ◌≢◌, ◌+◌, AllPairs, length, OnOk, Ok, Err, IfOk, true, false};
-ghost use Rattle.aggregate_expand.specs.Names.{with_names};
+ghost use Rattle.aggregate_expand.specs.LookedUp.{with_names};
 ghost use Rattle.aggregate_expand.specs.Chains.{HasChain, AreLeaves};
 ghost use Rattle.aggregate_expand.specs.Leaves.{goes_on, ends, leaves_of};
 ghost use Rattle.aggregate_expand.specs.LookUps.{CountsLookUps};
-ghost use Rattle.aggregate_expand.specs.Walk.{room_at, AreDone, AddsOnChains};
-ghost use Rattle.aggregate_expand.specs.declared.fault.ExpandFault.TheVariants.{Depth};
+ghost use Rattle.aggregate_expand.specs.LeafWalk.{room_at, AreDone, AddsOnChains};
+ghost use Rattle.aggregate_expand.specs.declared.expand_fault.ExpandFault.TheVariants.{Depth};
 
-use crate::fault::ExpandFault;
+use crate::expand_fault::ExpandFault;
 use crate::found::Found;
 use crate::lookup::Lookup;
 use crate::visits::Visits;

@@ -1,9 +1,9 @@
 //! The leaves that were found, each once.
 ghost use Rattle.std.specs.Prelude.{◌≡◌, [], ◌∷◌, IfErr, OnOk};
-ghost use Rattle.aggregate_expand.specs.Names.{with_names};
-ghost use Rattle.aggregate_expand.specs.declared.fault.ExpandFault.TheVariants.{Memory};
+ghost use Rattle.aggregate_expand.specs.LookedUp.{with_names};
+ghost use Rattle.aggregate_expand.specs.declared.expand_fault.ExpandFault.TheVariants.{Memory};
 
-use crate::fault::ExpandFault;
+use crate::expand_fault::ExpandFault;
 use std::alloc::Global;
 use std::collections::BTreeSet;
 use std::marker::Model;
@@ -21,7 +21,7 @@ impl Model for Found {
     ghost use Rattle.std.specs.List.{list_any};
     ghost use Rattle.std.specs.Ordering.{nat_cmp, is_eq};
     ghost use Rattle.std.specs.Cmp.Lexicographic.{slice_cmp};
-    ghost use Rattle.aggregate_expand.specs.Names.{has_name};
+    ghost use Rattle.aggregate_expand.specs.LookedUp.{has_name};
 
     ghost Value = { List (List ℕ) };
 

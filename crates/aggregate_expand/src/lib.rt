@@ -2,16 +2,13 @@
 #![tactic(auto)]
 
 pub mod expand;
-pub mod fault;
+pub mod expand_fault;
 mod found;
-pub mod laws;
+pub mod leaf_laws;
 pub mod lookup;
 pub mod visits;
 
 pub use expand::leaves;
-pub use fault::ExpandFault;
-pub use laws::{leaves_are_led_to, leaves_rest_on_chains};
+pub use expand_fault::ExpandFault;
+pub use leaf_laws::{leaves_are_led_to, leaves_rest_on_chains};
 pub use lookup::Lookup;
-
-#[cfg(test)]
-mod tests;

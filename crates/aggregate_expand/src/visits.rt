@@ -1,9 +1,9 @@
 //! The pairs of a cluster and a chain length that were visited.
 ghost use Rattle.std.specs.Prelude.{◌≡◌, ◌≢◌, [], AllPairs, OnOk, IfErr};
-ghost use Rattle.aggregate_expand.specs.Walk.{Marks};
-ghost use Rattle.aggregate_expand.specs.declared.fault.ExpandFault.TheVariants.{Memory};
+ghost use Rattle.aggregate_expand.specs.LeafWalk.{Marks};
+ghost use Rattle.aggregate_expand.specs.declared.expand_fault.ExpandFault.TheVariants.{Memory};
 
-use crate::fault::ExpandFault;
+use crate::expand_fault::ExpandFault;
 use std::alloc::Global;
 use std::collections::BTreeSet;
 use std::marker::Model;

@@ -3,7 +3,7 @@ use crate::event::{CallerEvent, DriverEvent};
 use crate::reply::{CallerReply, DriverReply};
 
 /// An event with its answer.
-#[derive(Debug, Drop)]
+#[derive(Drop)]
 pub enum What {
     Driver {
         event: DriverEvent,
@@ -16,7 +16,7 @@ pub enum What {
 }
 
 /// One step: who made it, for which line of the session, and what happened.
-#[derive(Debug, Drop)]
+#[derive(Drop)]
 pub struct Entry {
     /// The driver is 0, callers are 1 to 16.
     pub actor: u16,

@@ -2,7 +2,7 @@
 use xc_base::{Address, Authority, Call, CallId, List, Shared, State, Time};
 
 /// What became of the bytes of a data line.
-#[derive(Clone, Copy, Debug, PartialEq, Eq)]
+#[derive(Clone, Copy, PartialEq, Eq)]
 pub enum BytesHow {
     /// They were taken.
     Whole,
@@ -17,7 +17,7 @@ pub enum BytesHow {
 }
 
 /// An event that the driver plays.
-#[derive(Debug, Drop)]
+#[derive(Drop)]
 pub enum DriverEvent {
     /// The stream of an authority is opened; an open one is replaced.
     Opened(Authority),
@@ -45,7 +45,7 @@ pub enum DriverEvent {
 }
 
 /// An event of a caller.
-#[derive(Debug, Drop)]
+#[derive(Drop)]
 pub enum CallerEvent {
     /// A call takes the latest snapshot.
     Pin(Shared<Call>),

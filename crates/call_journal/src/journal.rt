@@ -6,8 +6,8 @@ use std::alloc::{AllocError, Global};
 use std::marker::Model;
 use xc_base::Memory;
 
-/// The entries of a journal. Contracts see a pair: the entries with the newest first, and how many more
-/// it takes without memory.
+/// The entries of a journal. Contracts see them with the newest first, and how many more the journal takes without
+/// memory.
 #[derive(Drop)]
 pub struct Journal {
     entries: Vec<Entry>,
@@ -15,31 +15,38 @@ pub struct Journal {
 }
 
 impl Model for Journal {
-    ghost use Rattle.std.specs.Prelude.{List, ℕ, ◌≤◌, ◌<◌, ◌-◌, ◌^◌, length, reverse, vec_capacity};
-    ghost use Rattle.call_journal.specs.declared.entry.Entry.{Entry};
+    ghost use Rattle.std.specs.Prelude.{◌≤◌, ◌<◌, ◌-◌, ◌^◌, length, reverse, vec_capacity};
+    ghost use Rattle.call_journal.specs.JournalViews.{JournalView};
 
-    ghost Value = { List Entry × ℕ };
+    ghost Value = { JournalView };
 
-    ghost view = { λ j. (reverse j.entries.items, j.room - length j.entries.items) };
+    ghost view = { λ j. record { entries = reverse j.entries.items; spare = j.room - length j.entries.items } };
 
     ghost invariant = { λ j. (j.room ≤ vec_capacity j.entries) × (length j.entries.items < 2 ^ 32) };
 }
 
 impl Journal {
-    /// An empty journal with room for so many entries.
+    /// An empty journal with room for so many entries. It fails for want of memory alone.
     pub fn new(alloc: Global, room: u32) -> Result<Journal, Memory>
-        ensures { IfOk result (λ j. j ≡ ([], room)) }
+        ensures { IfOk result (λ j. j ≡ record { entries = []; spare = room }) }
     {
         let entries = Vec::with_capacity(alloc, room as usize)?;
         Ok(Journal { entries, room })
     }
 
-    /// Makes room for so many more entries. There may be more room afterwards than before, and nothing
-    /// else changes.
+    /// How many more entries it takes without memory.
+    pub fn spare(&self) -> u32
+        ensures { result ≡ self.now.spare }
+    {
+        self.room.saturating_sub(self.entries.len() as u32)
+    }
+
+    /// Makes room for so many more entries. There may be more room afterwards than before, and nothing else changes. It
+    /// fails for want of memory, or where there would be more than 2^32 - 1 entries.
     pub fn reserve(&mut self, more: u16) -> Result<(), Memory>
-        ensures room { OnOk result (more ≤ self.new.1) }
-        ensures entries { self.new.0 ≡ self.old.0 }
-        ensures kept { self.old.1 ≤ self.new.1 }
+        ensures room { OnOk result (more ≤ self.new.spare) }
+        ensures entries { self.new.entries ≡ self.old.entries }
+        ensures kept { self.old.spare ≤ self.new.spare }
     {
         if self.entries.len() + more as usize > u32::MAX as usize {
             return Err(AllocError);
@@ -49,13 +56,13 @@ impl Journal {
         Ok(())
     }
 
-    /// Adds an entry. It comes back where there is no memory or there are 2^32 - 1 entries, which can't
-    /// be while there is room.
+    /// Adds an entry. It comes back for want of memory, or where there are 2^32 - 1 entries; neither can be while some
+    /// room is spare.
     pub fn push(&mut self, e: Entry) -> Result<(), Entry>
-        ensures ok { OnOk result (self.new ≡ (e ∷ self.old.0, self.old.1 - 1)) }
+        ensures ok { OnOk result (self.new ≡ record { entries = e ∷ self.old.entries; spare = self.old.spare - 1 }) }
         ensures err { OnErr result (self.new ≡ self.old) }
         ensures back { IfErr result (λ x. x ≡ e) }
-        ensures room { 0 < self.old.1 → IsOk result }
+        ensures room { 0 < self.old.spare → IsOk result }
     {
         if self.entries.len() >= u32::MAX as usize {
             return Err(e);
@@ -68,15 +75,15 @@ impl Journal {
 
     /// How many entries it has.
     pub fn len(&self) -> u32
-        ensures { result ≡ length self.now.0 }
+        ensures { result ≡ length self.now.entries }
     {
         self.entries.len() as u32
     }
 
     /// The entry at a place, from 0, the oldest first.
     pub fn at(&self, i: u32) -> &Entry
-        requires { i < length self.now.0 }
-        ensures { slice_get (reverse self.now.0) i ≡ Some result.now }
+        requires { i < length self.now.entries }
+        ensures { slice_get (reverse self.now.entries) i ≡ Some result.now }
     {
         &self.entries[i as usize]
     }

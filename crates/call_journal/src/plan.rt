@@ -3,7 +3,7 @@ use crate::event::DriverEvent;
 use xc_base::{Call, CallId, List, Shared};
 
 /// How far an actor has come.
-#[derive(Clone, Copy, Debug, PartialEq, Eq)]
+#[derive(Clone, Copy, PartialEq, Eq)]
 pub struct Count {
     /// How many of its listed events have ended.
     pub ended: u32,
@@ -12,7 +12,7 @@ pub struct Count {
 }
 
 /// An event that an actor is to play.
-#[derive(Debug, Drop)]
+#[derive(Drop)]
 pub enum ListedEvent {
     Driver(DriverEvent),
     /// A pin, and then a hold where the pin got a snapshot.
@@ -22,7 +22,7 @@ pub enum ListedEvent {
 }
 
 /// An event with its line, and the line that has to end before it.
-#[derive(Debug, Drop)]
+#[derive(Drop)]
 pub struct Listed {
     pub line: u32,
     pub after: Option<u32>,
@@ -30,7 +30,7 @@ pub struct Listed {
 }
 
 /// The listed events of each actor, the driver first.
-#[derive(Debug, Drop)]
+#[derive(Drop)]
 pub struct Plan {
     pub actors: List<List<Listed>>,
 }

@@ -5,14 +5,14 @@ use route_match::RouteAnswer;
 use xc_base::{Authority, Key, List, Reason, Text};
 
 /// A request that was sent to an authority.
-#[derive(Debug, Drop)]
+#[derive(Drop)]
 pub struct Sent {
     pub authority: Authority,
     pub request: Request,
 }
 
 /// The answer to a driver's event.
-#[derive(Debug, Drop)]
+#[derive(Drop)]
 pub struct DriverReply {
     pub verdict: Verdict,
     /// The requests that were due, in the order in which they left.
@@ -26,7 +26,7 @@ pub struct DriverReply {
 }
 
 /// The answer to a caller's event. Snapshots are named by their numbers.
-#[derive(Clone, Copy, Debug, PartialEq, Eq)]
+#[derive(Clone, Copy, PartialEq, Eq)]
 pub enum CallerReply {
     /// A pin of this snapshot.
     Pinned(u32),

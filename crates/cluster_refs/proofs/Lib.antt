@@ -1,4 +1,5 @@
 pub mod CallLemmas
 pub mod ListLemmas
 pub mod NameLemmas
+pub mod PinLemmas
 pub mod RetainedLemmas

@@ -9,7 +9,7 @@ use Rattle.std.proofs.lemmas.Cmp.{nat_list_cmp_total, eq_by_cmp_equiv}
 use Rattle.std.proofs.lemmas.Map.Made.{is_some-lookup}
 use Rattle.std.proofs.lemmas.Map.Views.{list_any-from_Contains, Contains-keys_from_lookup}
 use Rattle.std.proofs.lemmas.Map.Lookups.{exact_bytes}
-use Rattle.cluster_refs.specs.Names.{Name, name_cmp, is_name, count_of, Raises, Lowers, AllCounted}
+use Rattle.cluster_refs.specs.ReferredNames.{Name, name_cmp, is_name, count_of, Raises, Lowers, AllCounted}
 
 pub equal_from_is_eq : (o : Ordering) → is_eq o ≡ true → o ≡ Equal
 equal_from_is_eq Less is = cc

@@ -1,2 +1,3 @@
-pub mod Names
-pub mod References
+pub mod ReferredNames
+pub mod PinnedNames
+pub mod CallReferences

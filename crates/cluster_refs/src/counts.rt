@@ -1,14 +1,14 @@
-//! How many references each name has.
+//! How many calls hold each name.
 ghost use Rattle.std.specs.Prelude.{◌≡◌, ◌↔◌, ◌<◌, ℕ, List, ◌∷◌, [], map, Contains, OnOk, OnErr, IfOk};
-ghost use Rattle.std.specs.List.Sorted.{IsStrictlySortedBy};
-ghost use Rattle.cluster_refs.specs.Names.{name_cmp, count_of, Raises, Lowers, SameCounts};
+ghost use Rattle.cluster_refs.specs.ReferredNames.{count_of, Raises, Lowers};
 
 use std::alloc::{AllocError, Global};
 use std::collections::BTreeMap;
 use std::marker::Model;
 use xc_base::{List, Memory, Text};
 
-/// Counts above 0 by name, which contracts see as the list of both in the order of the names.
+/// How many calls hold each name, where there are any. Contracts see the names with their counts, in the order of the
+/// names.
 #[derive(Drop)]
 pub(crate) struct Counts {
     alloc: Global,
@@ -17,7 +17,7 @@ pub(crate) struct Counts {
 
 impl Model for Counts {
     ghost use Rattle.std.specs.Prelude.{List, ℕ};
-    ghost use Rattle.cluster_refs.specs.Names.{AllCounted};
+    ghost use Rattle.cluster_refs.specs.ReferredNames.{AllCounted};
 
     ghost Value = { List (List ℕ × ℕ) };
 
@@ -76,33 +76,9 @@ impl Counts {
         self.lower(&name);
     }
 
-    /// Counts all names once more, or none without memory.
-    pub(crate) fn raise_all(&mut self, names: &[Text]) -> Result<(), Memory>
-        ensures ok { OnOk result (Raises self.old self.new names.now) }
-        ensures err { OnErr result (SameCounts self.old self.new) }
-    {
-        for (i, name) in names.iter().enumerate() {
-            if let Err(fault) = self.raise(name) {
-                self.lower_all(&names[..i]);
-                return Err(fault);
-            }
-        }
-        Ok(())
-    }
-
-    /// Counts all names once less, where they are counted. It takes no memory.
-    pub(crate) fn lower_all(&mut self, names: &[Text])
-        ensures { Lowers self.old self.new names.now }
-    {
-        for name in names {
-            self.lower(name);
-        }
-    }
-
     /// The names that are counted, in the order of their bytes.
     pub(crate) fn names(&self) -> Result<List<Text>, Memory>
-        ensures counted { IfOk result (λ names. (name : List ℕ) → Contains names name ↔ (0 < count_of self.now name)) }
-        ensures rising { IfOk result (IsStrictlySortedBy name_cmp) }
+        ensures { IfOk result (λ names. (name : List ℕ) → Contains names name ↔ (0 < count_of self.now name)) }
     {
         let names: Vec<&Text> = self.counts.keys().collect(self.alloc)?;
         copies(self.alloc, names.as_slice())

@@ -5,13 +5,14 @@ ghost use Rattle.std.specs.BTreeMap.{insert_entry};
 ghost use Rattle.std.specs.List.Sorted.{IsStrictlySortedBy};
 ghost use Rattle.std.specs.Map.{lookup, keys_of};
 ghost use Rattle.xc_base.specs.declared.names.CallId.{CallId};
-ghost use Rattle.cluster_refs.specs.References.{call_cmp, is_call, pin_of, hold_of, SetsPin, SetsHold, AreRetained};
+ghost use Rattle.cluster_refs.specs.CallReferences.{call_cmp, is_call, pin_of, hold_of, IsListOf, SetsPin, SetsHold, AreRetained};
 
 use crate::counts::Counts;
+use crate::pins::{Pin, in_order, put_names, put_pins};
 use std::alloc::Global;
-use std::collections::BTreeMap;
+use std::collections::{BTreeMap, BTreeSet};
 use std::marker::Model;
-use xc_base::{CallId, List, Memory, Text};
+use xc_base::{CallId, List, Memory, Shared, Text};
 
 /// Adds an entry for a call that has none.
 fn insert<V: Drop>(map: &mut BTreeMap<CallId, V>, call: CallId, value: V) -> Result<(), Memory>
@@ -24,17 +25,18 @@ fn insert<V: Drop>(map: &mut BTreeMap<CallId, V>, call: CallId, value: V) -> Res
     Ok(())
 }
 
-/// The names that calls have pinned and those that they hold. Contracts see the two lists, in the order
-/// of the calls.
+/// The lists of names that calls have pinned and the names that they hold. Contracts see both in the order of the
+/// calls.
 #[derive(Drop)]
 pub struct Refs {
-    pins: BTreeMap<CallId, List<Text>>,
+    alloc: Global,
+    pins: BTreeMap<CallId, Pin>,
     holds: BTreeMap<CallId, Text>,
     counts: Counts,
 }
 
 impl Model for Refs {
-    ghost use Rattle.cluster_refs.specs.References.{References, AreKept};
+    ghost use Rattle.cluster_refs.specs.CallReferences.{References, AreKept};
 
     ghost Value = { References };
 
@@ -49,30 +51,31 @@ impl Refs {
         ensures { result ≡ record { pins = []; holds = [] } }
     {
         Refs {
+            alloc,
             pins: BTreeMap::new(alloc),
             holds: BTreeMap::new(alloc),
             counts: Counts::new(alloc),
         }
     }
 
-    /// Opens the call's pin on these names.
-    pub fn pin(&mut self, call: CallId, names: &List<Text>) -> Result<(), Memory>
-        requires { pin_of self.old call ≡ None }
-        ensures ok { OnOk result (SetsPin self.old self.new call (Some names.now)) }
+    /// Opens the call's pin on the list of this number. It copies no names, so it costs no more than a look-up. Without
+    /// memory nothing changes.
+    pub fn pin(
+        &mut self,
+        call: CallId,
+        number: u32,
+        names: &Shared<List<Text>>,
+    ) -> Result<(), Memory>
+        requires none { pin_of self.old call ≡ None }
+        requires same { IsListOf self.old number names.now }
+        ensures ok { OnOk result (SetsPin self.old self.new call (Some (record { number = number; names = names.now }))) }
         ensures err { OnErr result (self.new ≡ self.old) }
     {
-        let copy = names.clone()?;
-        self.counts.raise_all(names.as_slice())?;
-        match insert(&mut self.pins, call, copy) {
-            Ok(()) => Ok(()),
-            Err(fault) => {
-                self.counts.lower_all(names.as_slice());
-                Err(fault)
-            }
-        }
+        let names = names.share()?;
+        insert(&mut self.pins, call, Pin { number, names })
     }
 
-    /// The call holds this name.
+    /// The call holds this name from now on. Without memory nothing changes.
     pub fn hold(&mut self, call: CallId, name: &Text) -> Result<(), Memory>
         requires { hold_of self.old call ≡ None }
         ensures ok { OnOk result (SetsHold self.old self.new call (Some name.now)) }
@@ -95,11 +98,8 @@ impl Refs {
         ensures gone { SetsPin self.old self.new call None }
     {
         match self.pins.remove(&call) {
-            Some(names) => {
-                self.counts.lower_all(names.as_slice());
-                true
-            }
-            None => false,
+            Some(_) => return true,
+            None => return false,
         }
     }
 
@@ -128,6 +128,11 @@ impl Refs {
     pub fn retained(&self) -> Result<List<Text>, Memory>
         ensures { IfOk result (AreRetained self.now) }
     {
-        self.counts.names()
+        let held = self.counts.names()?;
+        let pins: Vec<&Pin> = self.pins.values().collect(self.alloc)?;
+        let mut names = BTreeSet::new(self.alloc);
+        put_names(&mut names, held.as_slice())?;
+        put_pins(self.alloc, &mut names, pins.as_slice())?;
+        in_order(self.alloc, names)
     }
 }

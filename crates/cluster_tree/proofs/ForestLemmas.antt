@@ -16,17 +16,22 @@ use Rattle.xds_config.specs.declared.config.Leaves.{Leaves}
 use Rattle.xds_config.specs.declared.config.ClusterEntry.{ClusterEntry}
 use Rattle.xds_config.specs.Configs.{AreLawfulLeaves, IsNameBefore}
 use Rattle.graceful_switch.specs.Takeover.{Pair, has_to_wait, settled}
-use Rattle.cluster_tree.specs.declared.cluster.Cluster.{Cluster}
-use Rattle.cluster_tree.specs.declared.cluster.Standing.{Standing}
-use Rattle.cluster_tree.specs.declared.snapshot.TreeView.{TreeView}
-use Rattle.cluster_tree.specs.Reports.{Reports, state_in}
-use Rattle.cluster_tree.specs.Trees.{TreeFacts, followed, stayed, state_of, has_kind, trees_after}
-use Rattle.cluster_tree.specs.Quiet.{is_quiet}
-use Rattle.cluster_tree.specs.Clusters.{trees_in, trees_of, cluster_named, standing, state_after, cluster_after, clusters_after, entries_of, DifferAt, is_quiet_in}
-use Rattle.cluster_tree.specs.Users.{UserList, users_at, ReadsLeaves, IsSoundTree, IsSound, AreRead, AreIndexed, MarksUsers, OthersStay, AreStepped}
-use Rattle.cluster_tree.specs.Agree.{AgreeOn}
-use Rattle.cluster_tree.proofs.NameLemmas.{each_once}
-use Rattle.cluster_tree.proofs.StayLemmas.{trees_stay, view_stays}
+use Rattle.cluster_tree.specs.declared.cluster_trees.Cluster.{Cluster}
+use Rattle.cluster_tree.specs.declared.cluster_trees.Standing.{Standing}
+use Rattle.tree_steps.specs.declared.tree_view.TreeView.{TreeView}
+use Rattle.tree_steps.specs.Reports.{Reports, state_in}
+use Rattle.tree_steps.specs.TreeSteps.{TreeFacts, followed, stayed, state_of, has_kind, trees_after}
+use Rattle.tree_steps.specs.Quiet.{is_quiet}
+use Rattle.cluster_tree.specs.StandingTrees.{trees_in, trees_of, cluster_named, standing, state_after, cluster_after, clusters_after, entries_of, view_in, views_of, DifferAt, is_quiet_in}
+use Rattle.tree_steps.specs.Users.{UserList, users_at, ReadsLeaves, IsSoundTree, MarksUsers}
+use Rattle.cluster_tree.specs.ClusterUsers.{IsSound, AreRead, AreRising, AreIndexed, OthersStay, AreStepped}
+use Rattle.tree_steps.specs.Agree.{AgreeOn}
+use Rattle.cluster_tree.specs.ViewChanges.{ArePickable}
+use Rattle.weighted_lb.specs.Pick.{IsPickable}
+use Rattle.std.proofs.lemmas.List.Elements.{All-map}
+use Rattle.tree_steps.proofs.PickLemmas.{tree_pickable}
+use Rattle.tree_steps.proofs.NameLemmas.{each_once}
+use Rattle.tree_steps.proofs.StayLemmas.{trees_stay, view_stays}
 
 map_map : {A B C : Type 0} (g : B → C) (f : A → B) (xs : List A) → map g (map f xs) ≡ map (λ x. g (f x)) xs
 map_map g f [] = refl
@@ -50,17 +55,14 @@ updated_with now r entries old clusters is =
 
 -- ---- a cluster is found by its own name
 
-find_first : {X : Type 0} (p : X → Bool) (xs : List X) (k : ℕ) (d : X) → k < length xs → ((j : ℕ) → j < k → p (get_or xs j d) ≡ false) → p (get_or xs k d) ≡ true → find p xs ≡ Some (get_or xs k d)
+pub find_first : {X : Type 0} (p : X → Bool) (xs : List X) (k : ℕ) (d : X) → k < length xs → ((j : ℕ) → j < k → p (get_or xs j d) ≡ false) → p (get_or xs k d) ≡ true → find p xs ≡ Some (get_or xs k d)
 find_first p [] k d lt others here = absurd (omega arith)
 find_first p (x ∷ xs) zero d lt others here = ap (λ (b : Bool). cond b (Some x) (find p xs)) here
 find_first p (x ∷ xs) (suc k) d lt others here =
     ap (λ (b : Bool). cond b (Some x) (find p xs)) (others 0 (omega arith)) ∙ find_first p xs k d (omega arith) (λ j less. others (suc j) (omega arith)) here
 
-names_differ : (a b : List ℕ) → IsNameBefore a b → bytes_eq a b ≡ false
+pub names_differ : (a b : List ℕ) → IsNameBefore a b → bytes_eq a b ≡ false
 names_differ a b before = sym (is_eq-slice_cmp a b) ∙ ap is_eq before
-
-abbrev AreRising : List Cluster → Type 0
-AreRising clusters = AllPairs (λ a b. IsNameBefore a.entry.name b.entry.name) clusters
 
 named_itself : (clusters : List Cluster) (k : ℕ) (d : Cluster) → AreRising clusters → k < length clusters → cluster_named (get_or clusters k d).entry.name clusters ≡ Some (get_or clusters k d)
 named_itself clusters k d rising lt =
@@ -296,3 +298,35 @@ not_due false false now last due is idle = absurd (let clash : true ≡ false = 
 not_due false true now last due is idle =
     let later : nat_lt now last ≡ false = sym is ∙ idle in
     record { unmarked = refl; idle = refl; le = grind (arith, nat_tests) }
+
+-- one more cluster after an update
+pub clusters_more : (now : Time) (r : Reports) (old : List Cluster) (entries : List ClusterEntry) (i : ℕ) (entry : ClusterEntry) (clusters newer : List Cluster) (cluster : Cluster) → i < length entries → entry ≡ get_or entries i entry →
+    clusters ≡ clusters_after now r (take i entries) old → newer ≡ clusters ++ cluster ∷ [] → cluster ≡ cluster_after now r entry (cluster_named entry.name old) → newer ≡ clusters_after now r (take (i + 1) entries) old
+clusters_more now r old entries i entry clusters newer cluster lt is was more made =
+    let g : ClusterEntry → Cluster = after_entry now r old in
+    let all : map g (take (i + 1) entries) ≡ map g (take i entries) ++ g entry ∷ [] =
+    ap (λ (es : List ClusterEntry). map g es) (take_more entries i entry lt ∙ ap (λ (e : ClusterEntry). take i entries ++ e ∷ []) (sym is)) ∙ map-append g (take i entries) (entry ∷ []) in
+    more ∙ (ap (λ (cs : List Cluster). cs ++ cluster ∷ []) was ∙ (ap (λ (c : Cluster). map g (take i entries) ++ c ∷ []) made ∙ sym all))
+
+-- ---- picks can be made from what is seen
+
+state_pickable : (now : Time) (r : Reports) (state : Result Leaves Reason) (old : Option (Pair TreeFacts)) (here : Result Standing Reason) → here ≡ state_after now r state old → IfOk here (λ st. AreLawfulLeaves st.trees.serving.leaves) →
+    IfOk (view_in here) (λ view. IsPickable view.picker)
+state_pickable now r (Ok L) old here is lawful =
+    let made : Result Standing Reason = Ok (standing r (trees_after now r L old)) in
+    let lawful_m : IfOk made (λ st. AreLawfulLeaves st.trees.serving.leaves) = subst (λ (x : Result Standing Reason). IfOk x (λ st. AreLawfulLeaves st.trees.serving.leaves)) is lawful in
+    let t : TreeFacts = (trees_after now r L old).serving in
+    subst (λ (x : Result Standing Reason). IfOk (view_in x) (λ view. IsPickable view.picker)) (sym is) (tree_pickable r t.leaves.leaves t.chosen lawful_m.endpoints)
+state_pickable now r (Err reason) old here is lawful = subst (λ (x : Result Standing Reason). IfOk (view_in x) (λ view. IsPickable view.picker)) (sym is) tt
+
+pub views_pickable : (users : UserList) (now : Time) (r : Reports) (clusters before : List Cluster) → AreIndexed users clusters → clusters ≡ clusters_after now r (entries_of clusters) before → ArePickable (views_of clusters)
+views_pickable users now r clusters before indexed is =
+    All-map (λ (seen : Result TreeView Reason). IfOk seen (λ view. IsPickable view.picker)) (λ (c : Cluster). view_in c.state) clusters (λ k d lt.
+    let c : Cluster = get_or clusters k d in
+    let entries : List ClusterEntry = entries_of clusters in
+    let g : ClusterEntry → Cluster = after_entry now r before in
+    let within : k < length entries = rw (length-map clusters (λ (x : Cluster). x.entry)) lt in
+    let made : c ≡ g c.entry =
+    ap (λ (cs : List Cluster). get_or cs k d) is ∙ (get_or-map g entries k d.entry d within ∙ ap g (get_or-map (λ (x : Cluster). x.entry) clusters k d d.entry lt)) in
+    let o : Option (Pair TreeFacts) = option_and_then trees_of (cluster_named c.entry.name before) in
+    state_pickable now r c.entry.state o c.state (ap (λ (x : Cluster). x.state) made) (lawful_serving users clusters indexed.sound k d lt))

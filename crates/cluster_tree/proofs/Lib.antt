@@ -1,11 +1,5 @@
-pub mod AgreeLemmas
-pub mod ChildLemmas
-pub mod HistoryLemmas
-pub mod NameLemmas
-pub mod PickLemmas
-pub mod PlaceLemmas
-pub mod QuietLemmas
-pub mod StayLemmas
-pub mod UserLemmas
 pub mod ForestLemmas
 pub mod ReportLemmas
+pub mod ClusterLemmas
+pub mod ChangeLemmas
+pub mod MergeLemmas

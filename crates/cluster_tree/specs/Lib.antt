@@ -1,9 +1,3 @@
-pub mod Agree
-pub mod Clusters
-pub mod History
-pub mod Lent
-pub mod Picks
-pub mod Quiet
-pub mod Reports
-pub mod Trees
-pub mod Users
+pub mod StandingTrees
+pub mod ClusterUsers
+pub mod ViewChanges

@@ -1,18 +1,13 @@
 //! The balancers of each cluster as one tree, and the snapshots of them (gRFC A37, A56, A74).
 #![tactic(auto)]
 
-pub(crate) mod children;
-pub(crate) mod cluster;
-pub mod law;
-pub(crate) mod pickers;
-pub(crate) mod reports;
+pub(crate) mod cluster_merge;
+pub(crate) mod cluster_trees;
 pub mod snapshot;
-pub(crate) mod tree;
+pub mod tree_laws;
+pub(crate) mod tree_switch;
 pub mod trees;
-pub(crate) mod users;
 
-pub use snapshot::{NamedChild, Snapshot, TreeView};
-pub use trees::Trees;
-
-#[cfg(test)]
-mod tests;
+pub use snapshot::Snapshot;
+pub use tree_steps::{NamedChild, TreeView};
+pub use trees::{Trees, UpdatedViews};

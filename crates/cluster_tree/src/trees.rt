@@ -1,57 +1,57 @@
 //! The trees of all clusters.
-ghost use Rattle.std.specs.Prelude.{◌≡◌, ◌<◌, ◌^◌, [], length, map, All, IfOk, OnOk, Some, not, nat_lt, set, ◌||◌};
-ghost use Rattle.xds_config.specs.Configs.{IsLawfulConfig, AreLawfulLeaves};
-ghost use Rattle.cluster_tree.specs.Clusters.{clusters_after, cluster_after, views_of, no_clusters, entries_of, forest_after, IsUpdatedWith, ChangesAt, is_quiet_in};
-ghost use Rattle.cluster_tree.specs.Users.{AreRead, OthersStay, AreStepped};
+ghost use Rattle.std.specs.Prelude.{◌≡◌, ◌<◌, ◌^◌, [], false, length, map, option_map, All, AllPairs, IfOk, OnOk, Some, set};
+ghost use Rattle.xds_config.specs.Configs.{IsLawfulConfig, IsNameBefore, AreLawfulLeaves};
+ghost use Rattle.cluster_tree.specs.StandingTrees.{clusters_after, cluster_after, views_of, no_clusters, entries_of, forest_after, IsUpdatedWith, ChangesAt};
+ghost use Rattle.cluster_tree.specs.ClusterUsers.{AreReadIn, AreRead, AreReadBut, OthersStay, AreStepped, StandBut};
+ghost use Rattle.tree_steps.specs.Users.{Grows};
+ghost use Rattle.cluster_tree.specs.ViewChanges.{seen_of, IsChangeMark, MarkChanges, MarkChangesInPlace, ArePickable, localities_at};
 
-use crate::cluster::{Cluster, add_users, cluster_after, cluster_named, is_quiet_cluster, view_of};
-use crate::snapshot::TreeView;
-use crate::users::{Users, marks_of};
+use crate::cluster_merge::{
+    NextClusters, Times, Turn, first_not_before, is_due, is_marked, named_at, next_cluster,
+};
+use crate::cluster_trees::{
+    Cluster, NextCluster, add_users, cluster_after, served_localities, view_of,
+};
 use std::alloc::Global;
 use std::collections::BTreeMap;
 use std::marker::Model;
+use tree_steps::users::marks_of;
+use tree_steps::{TreeView, Users};
 use xc_base::{Address, List, Memory, Reason, Shared, State, Time};
-use xds_config::{ClusterEntry, Config};
+use xds_config::{ClusterEntry, Config, Locality};
 
-/// The trees of the clusters of a configuration, which contracts see as these clusters with what is kept
-/// of their trees, and the time of the last update.
+/// What is seen of the clusters of a configuration after an update, in the configuration's order.
+#[derive(Drop)]
+pub struct UpdatedViews {
+    /// The view of each cluster's trees, or the reason why the cluster has none. A view that didn't
+    /// change is shared.
+    pub views: List<Result<Shared<TreeView>, Reason>>,
+    /// For each cluster, whether what is seen of it differs from what the update before gave of it.
+    pub changed: Vec<bool>,
+}
+
+/// The trees of the clusters of a configuration, of which there are fewer than 2^31. Contracts see them as
+/// these clusters with what is kept of their trees, and the time of the last update.
 #[derive(Drop)]
 pub struct Trees {
     alloc: Global,
-    now: Time,
+    time: Time,
     clusters: Vec<Cluster>,
     users: Users,
 }
 
 impl Model for Trees {
-    ghost use Rattle.cluster_tree.specs.Clusters.{Forest};
-    ghost use Rattle.cluster_tree.specs.Users.{AreIndexed};
+    ghost use Rattle.cluster_tree.specs.StandingTrees.{Forest};
+    ghost use Rattle.cluster_tree.specs.ClusterUsers.{AreIndexed};
 
     ghost Value = { Forest };
 
-    ghost view = { λ t. record { now = t.now; clusters = t.clusters.items } };
+    ghost view = { λ t. record { now = t.time; clusters = t.clusters.items } };
 
     ghost invariant = { λ t. AreIndexed t.users t.clusters.items };
 }
 
-fn clusters_after(
-    alloc: Global,
-    reports: &BTreeMap<Address, State>,
-    now: Time,
-    entries: &[Shared<ClusterEntry>],
-    old: &[Cluster],
-) -> Result<Vec<Cluster>, Memory>
-    requires { All (λ entry. IfOk entry.state AreLawfulLeaves) entries.now }
-    ensures { IfOk result (λ clusters. clusters.items ≡ clusters_after now reports.now.entries entries.now old.now) }
-{
-    let mut clusters = Vec::new(alloc);
-    for entry in entries {
-        let before = cluster_named(&entry.get().name, old);
-        clusters.push(cluster_after(alloc, reports, now, entry, before)?)?;
-    }
-    Ok(clusters)
-}
-
+/// What is seen of the clusters.
 fn views_of(
     alloc: Global,
     clusters: &[Cluster],
@@ -74,34 +74,88 @@ fn users_of(alloc: Global, clusters: &[Cluster]) -> Result<Users, Memory>
     for (place, cluster) in clusters.iter().enumerate() {
         add_users(&mut users, cluster, place as u32)?;
     }
+    users.note();
     Ok(users)
 }
 
-/// Has each cluster take an update that is marked, or has a timer that runs; each does where time goes
-/// back.
-fn step_clusters(
-    alloc: Global,
-    reports: &BTreeMap<Address, State>,
-    last: Time,
-    now: Time,
-    marks: &[bool],
-    clusters: &mut Vec<Cluster>,
-) -> Result<(), Memory>
-    requires marks { length marks.now ≡ length clusters.old.items }
-    requires lawful { All (λ c. IfOk c.entry.state AreLawfulLeaves) clusters.old.items }
-    requires others { OthersStay last now reports.now.entries marks.now clusters.old.items }
-    ensures each { AreStepped now reports.now.entries clusters.old.items clusters.new.items }
-    ensures all { OnOk result (clusters.new.items ≡ map (λ c. cluster_after now reports.now.entries c.entry (Some c)) clusters.old.items) }
+/// Adds a cluster to those that read its addresses, where it is new at its place.
+fn add_new(users: &mut Users, cluster: &Cluster, place: u32, is_new: bool) -> Result<(), Memory>
+    requires { is_new ≡ false → AreReadIn users.old place cluster.now.entry.state cluster.now.state }
+    ensures grows { OnOk result (Grows users.old users.new) }
+    ensures reads { OnOk result (AreReadIn users.new place cluster.now.entry.state cluster.now.state) }
 {
-    for place in 0..clusters.len() {
-        if is_due(&clusters[place], marks[place], last, now) {
-            let next = stepped(alloc, reports, now, &clusters[place])?;
-            put(clusters, place, next);
-        }
+    if is_new {
+        add_users(users, cluster, place)?;
     }
     Ok(())
 }
 
+/// Adds the clusters that are new at their places to those that read their addresses.
+fn add_all_new(users: &mut Users, clusters: &[Cluster], anew: &[bool]) -> Result<(), Memory>
+    requires few { length clusters.now < 2 ^ 31 }
+    requires others { AreReadBut anew.now users.old clusters.now }
+    ensures { OnOk result (AreRead users.new clusters.now) }
+{
+    for (place, cluster) in clusters.iter().enumerate() {
+        add_new(users, cluster, place as u32, is_marked(anew, place))?;
+    }
+    Ok(())
+}
+
+/// Brings what is kept of which clusters read which addresses to the next clusters. It is made anew where it
+/// has grown to more than twice of what it was.
+fn follow_users(alloc: Global, users: &mut Users, next: &NextClusters) -> Result<(), Memory>
+    requires few { length next.now.clusters.items < 2 ^ 31 }
+    requires others { AreReadBut next.now.anew.items users.old next.now.clusters.items }
+    ensures { OnOk result (AreRead users.new next.now.clusters.items) }
+{
+    if users.has_doubled() {
+        *users = users_of(alloc, &next.clusters)?;
+        return Ok(());
+    }
+    add_all_new(users, &next.clusters, &next.anew)
+}
+
+/// Has each cluster take an update that is marked, or has a timer that runs; each does where time goes
+/// back. It answers for each cluster whether what is seen of it differs from before.
+fn step_clusters(
+    alloc: Global,
+    reports: &BTreeMap<Address, State>,
+    times: Times,
+    marks: &[bool],
+    clusters: &mut Vec<Cluster>,
+) -> Result<Vec<bool>, Memory>
+    requires marks { length marks.now ≡ length clusters.old.items }
+    requires lawful { All (λ c. IfOk c.entry.state AreLawfulLeaves) clusters.old.items }
+    requires others { OthersStay times.last times.this reports.now.entries marks.now clusters.old.items }
+    ensures each { AreStepped times.this reports.now.entries clusters.old.items clusters.new.items }
+    ensures changed { IfOk result (λ changed. MarkChangesInPlace changed.items clusters.old.items clusters.new.items) }
+    ensures all { OnOk result (clusters.new.items ≡ map (λ c. cluster_after times.this reports.now.entries c.entry (Some c)) clusters.old.items) }
+{
+    let mut changed = vec![in alloc; false; clusters.len()]?;
+    for place in 0..clusters.len() {
+        let turn = Turn {
+            times,
+            marked: marks[place],
+        };
+        if is_due(&clusters[place], turn) {
+            let next = step_cluster(alloc, reports, times.this, &clusters[place])?;
+            put_mark(&mut changed, place, next.changed);
+            put(clusters, place, next.cluster);
+        }
+    }
+    Ok(changed)
+}
+
+/// Puts a mark in its place.
+fn put_mark(marks: &mut Vec<bool>, place: usize, mark: bool)
+    requires { place < length marks.old.items }
+    ensures { marks.new.items ≡ set marks.old.items place mark }
+{
+    marks[place] = mark;
+}
+
+/// Puts a cluster in its place.
 fn put(clusters: &mut Vec<Cluster>, place: usize, next: Cluster)
     requires { place < length clusters.old.items }
     ensures { clusters.new.items ≡ set clusters.old.items place next }
@@ -109,20 +163,16 @@ fn put(clusters: &mut Vec<Cluster>, place: usize, next: Cluster)
     clusters[place] = next;
 }
 
-fn is_due(cluster: &Cluster, marked: bool, last: Time, now: Time) -> bool
-    ensures { result ≡ (marked || not (is_quiet_in cluster.now.state) || nat_lt now.0 last.0) }
-{
-    marked || !is_quiet_cluster(cluster) || now.0 < last.0
-}
-
-fn stepped(
+/// A cluster that stays in the configuration, after an update.
+fn step_cluster(
     alloc: Global,
     reports: &BTreeMap<Address, State>,
     now: Time,
     cluster: &Cluster,
-) -> Result<Cluster, Memory>
+) -> Result<NextCluster, Memory>
     requires { IfOk cluster.now.entry.state AreLawfulLeaves }
-    ensures { IfOk result (λ next. next ≡ cluster_after now reports.now.entries cluster.now.entry (Some cluster.now)) }
+    ensures changed { IfOk result (λ next. IsChangeMark next.changed (Some (seen_of cluster.now)) (seen_of next.cluster)) }
+    ensures cluster { IfOk result (λ next. next.cluster ≡ cluster_after now reports.now.entries cluster.now.entry (Some cluster.now)) }
 {
     cluster_after(alloc, reports, now, &cluster.entry, Some(cluster))
 }
@@ -134,60 +184,118 @@ impl Trees {
     {
         Trees {
             alloc,
-            now: Time(0),
+            time: Time(0),
             clusters: Vec::new(alloc),
             users: Users::new(alloc),
         }
     }
 
-    /// Brings the trees to a configuration, to the states that addresses reported last, and to the time. It
-    /// answers the view of each cluster's trees in the order of the configuration, or the reason why the
-    /// cluster has none. A view that didn't change is shared. After want of memory the trees are spent.
+    /// The clusters of a configuration after an update. Those before stand in the order of their names, as the entries
+    /// do, so that each is passed once.
+    fn clusters_after(
+        &self,
+        reports: &BTreeMap<Address, State>,
+        now: Time,
+        entries: &[Shared<ClusterEntry>],
+        marks: &[bool],
+    ) -> Result<NextClusters, Memory>
+        requires lawful { All (λ entry. IfOk entry.state AreLawfulLeaves) entries.now }
+        requires rising { AllPairs (λ a b. IsNameBefore a.name b.name) entries.now }
+        requires others { OthersStay self.now.now now reports.now.entries marks.now self.now.clusters }
+        ensures changed { IfOk result (λ next. MarkChanges next.changed.items self.now.clusters next.clusters.items) }
+        ensures clusters { IfOk result (λ next. next.clusters.items ≡ clusters_after now reports.now.entries entries.now self.now.clusters) }
+        ensures anew { IfOk result (λ next. StandBut next.anew.items self.now.clusters next.clusters.items) }
+    {
+        let times = Times {
+            last: self.time,
+            this: now,
+        };
+        let old = self.clusters.as_slice();
+        let mut next = NextClusters::new(self.alloc);
+        let mut from = 0;
+        for (place, entry) in entries.iter().enumerate() {
+            from = first_not_before(old, from, &entry.get().name);
+            let before = named_at(old, from, &entry.get().name);
+            let turn = Turn {
+                times,
+                marked: is_marked(marks, from),
+            };
+            let cluster = next_cluster(self.alloc, reports, turn, entry, before)?;
+            next.push(cluster, from != place)?;
+        }
+        Ok(next)
+    }
+
+    /// Brings the trees to a configuration, to the states that addresses reported last, and to the time in
+    /// milliseconds, where every address whose state differs from that of the last update is one of `changed`. It
+    /// answers what is seen of each cluster, and whether that differs from what was seen of the cluster of its name.
+    /// A cluster whose entry is the same as before costs little, if it reads none of the addresses and has no timer that
+    /// runs. After want of memory the trees are spent.
     pub fn update(
         &mut self,
         config: &Shared<Config>,
         reports: &BTreeMap<Address, State>,
         now: Time,
-    ) -> Result<List<Result<Shared<TreeView>, Reason>>, Memory>
-        requires { IsLawfulConfig config.now }
+        changed: &[Address],
+    ) -> Result<UpdatedViews, Memory>
+        requires lawful { IsLawfulConfig config.now }
+        requires changes { ChangesAt changed.now reports.now.entries self.old }
         ensures step { OnOk result (self.new ≡ forest_after now reports.now.entries config.now.clusters self.old) }
-        ensures views { IfOk result (λ views. views ≡ views_of self.new.clusters) }
+        ensures views { IfOk result (λ updated. updated.views ≡ views_of self.new.clusters) }
+        ensures changed { IfOk result (λ updated. MarkChanges updated.changed.items self.old.clusters self.new.clusters) }
+        ensures pickable { IfOk result (λ updated. ArePickable updated.views) }
         ensures updated { OnOk result (IsUpdatedWith reports.now.entries self.new) }
     {
         let entries = config.get().clusters.as_slice();
-        let clusters = clusters_after(self.alloc, reports, now, entries, &self.clusters)?;
-        let users = users_of(self.alloc, &clusters)?;
-        let views = views_of(self.alloc, &clusters)?;
-        self.now = now;
-        self.clusters = clusters;
-        self.users = users;
-        Ok(views)
+        let marks = marks_of(self.alloc, &self.users, changed, self.clusters.len())?;
+        let next = self.clusters_after(reports, now, entries, &marks)?;
+        let views = views_of(self.alloc, &next.clusters)?;
+        self.time = now;
+        self.clusters = Vec::new(self.alloc);
+        follow_users(self.alloc, &mut self.users, &next)?;
+        self.clusters = next.clusters;
+        Ok(UpdatedViews {
+            views,
+            changed: next.changed,
+        })
     }
 
     /// The same with the configuration of the last update, where every address whose state differs from
-    /// that of the last update is one of these. It is for updates that few clusters read.
+    /// that of the last update is one of these. It is for updates that few clusters read: a cluster that
+    /// reads none of the addresses and has no timer that runs costs next to nothing.
     pub fn update_states(
         &mut self,
         reports: &BTreeMap<Address, State>,
         now: Time,
         changed: &[Address],
-    ) -> Result<List<Result<Shared<TreeView>, Reason>>, Memory>
+    ) -> Result<UpdatedViews, Memory>
         requires { ChangesAt changed.now reports.now.entries self.old }
         ensures step { OnOk result (self.new ≡ forest_after now reports.now.entries (entries_of self.old.clusters) self.old) }
-        ensures views { IfOk result (λ views. views ≡ views_of self.new.clusters) }
+        ensures views { IfOk result (λ updated. updated.views ≡ views_of self.new.clusters) }
+        ensures changed { IfOk result (λ updated. MarkChangesInPlace updated.changed.items self.old.clusters self.new.clusters) }
+        ensures pickable { IfOk result (λ updated. ArePickable updated.views) }
         ensures updated { OnOk result (IsUpdatedWith reports.now.entries self.new) }
     {
         let marks = marks_of(self.alloc, &self.users, changed, self.clusters.len())?;
-        step_clusters(
-            self.alloc,
-            reports,
-            self.now,
-            now,
-            &marks,
-            &mut self.clusters,
-        )?;
-        self.now = now;
+        let times = Times {
+            last: self.time,
+            this: now,
+        };
+        let changed = step_clusters(self.alloc, reports, times, &marks, &mut self.clusters)?;
+        self.time = now;
         let views = views_of(self.alloc, &self.clusters)?;
-        Ok(views)
+        Ok(UpdatedViews { views, changed })
+    }
+
+    /// The localities of the chosen child of a cluster's serving tree (gRFC A27, Envoy's Locality), in their order: a part
+    /// of the view's picker names one by its place here. The cluster has its place in the configuration, from 0. There are
+    /// none where there is no such place or the cluster has no trees. It answers want of memory alone.
+    pub fn localities(&self, cluster: u32) -> Result<Vec<&Locality>, Memory>
+        ensures { IfOk result (λ localities. map (λ l. l.now) localities.items ≡ localities_at self.entry.now cluster) }
+    {
+        match self.clusters.get(cluster as usize) {
+            Some(cluster) => served_localities(self.alloc, cluster),
+            None => Ok(Vec::new(self.alloc)),
+        }
     }
 }

@@ -14,15 +14,15 @@ use Rattle.xc_keys.specs.Keys.{key_cmp}
 use Rattle.xc_keys.proofs.KeyLemmas.{exact_keys, is_key_equiv, same_key}
 use Rattle.xc_keys.proofs.MemberLemmas.{no_member, there, at_first, mapped, from_mapped}
 use Rattle.aggregate_expand.specs.Chains.{Table, led_to, longest_chain}
-use Rattle.dep_manager.specs.Orders.{Name, name_cmp, sorted}
-use Rattle.dep_manager.specs.Resources.{Resources, cluster_fate}
-use Rattle.dep_manager.specs.Front.{named_routes}
-use Rattle.dep_manager.specs.Reach.{aggregates, children_among, endpoint_name, endpoint_names, keys_with, on_chains, reach, reached_clusters, roots}
-use Rattle.dep_manager.specs.Watching.{has_key}
+use Rattle.config_assembly.specs.Orders.{Name, name_cmp, sorted}
+use Rattle.config_assembly.specs.ReachedResources.{Resources, cluster_fate}
+use Rattle.config_assembly.specs.Front.{named_routes}
+use Rattle.config_assembly.specs.Reach.{aggregates, children_among, endpoint_name, endpoint_names, keys_with, on_chains, reach, reached_clusters, roots}
+use Rattle.config_assembly.specs.Watching.{has_key}
 use Rattle.dep_manager.specs.Laws.{IsClusterKey, IsEndpointKey, IsOnChain, IsReached, IsRouteKey}
-use Rattle.dep_manager.proofs.DecideLemmas.{in_chosen}
-use Rattle.dep_manager.proofs.Members.{from_joined, from_option, from_sorted, in_sorted}
-use Rattle.dep_manager.proofs.ReachLemmas.{has_route, has_target, led_on}
+use Rattle.dep_manager.proofs.ReachSteps.{in_chosen}
+use Rattle.config_assembly.proofs.Members.{from_joined, from_option, from_sorted, in_sorted}
+use Rattle.config_assembly.proofs.ReachLemmas.{has_route, has_target, led_on}
 
 -- ---- lists
 

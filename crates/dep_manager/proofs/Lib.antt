@@ -1,9 +1,7 @@
 pub mod ChainLemmas
 pub mod DecideLemmas
-pub mod LawfulLemmas
-pub mod Members
-pub mod OrderLemmas
-pub mod ReachLemmas
-pub mod TableLemmas
-pub mod TestLemmas
-pub mod WatchLemmas
+pub mod KeptLemmas
+pub mod NewsLemmas
+pub mod PairLemmas
+pub mod ReachSteps
+pub mod RenewLemmas

@@ -4,12 +4,12 @@ use Rattle.xc_base.specs.declared.names.Kind.{Kind}
 use Rattle.xc_base.specs.declared.names.Key.{Key}
 use Rattle.aggregate_expand.specs.Chains.{led_to, longest_chain}
 use Rattle.xds_cache.specs.declared.fate.Known.{Known}
-use Rattle.dep_manager.specs.Orders.{Name}
-use Rattle.dep_manager.specs.Resources.{Resources, cluster_fate}
-use Rattle.dep_manager.specs.Front.{named_routes}
-use Rattle.dep_manager.specs.Reach.{aggregates, endpoint_name, missing, reach, roots}
-use Rattle.dep_manager.specs.Configs.{whole_config}
-use Rattle.dep_manager.specs.Watching.{has_key}
+use Rattle.config_assembly.specs.Orders.{Name}
+use Rattle.config_assembly.specs.ReachedResources.{Resources, cluster_fate}
+use Rattle.config_assembly.specs.Front.{named_routes}
+use Rattle.config_assembly.specs.Reach.{aggregates, endpoint_name, missing, reach, roots}
+use Rattle.config_assembly.specs.WholeConfigs.{whole_config}
+use Rattle.config_assembly.specs.Watching.{has_key}
 
 -- the same resources, of which this is known
 abbrev pub with_fates : Resources → (Key → Known) → Resources

@@ -1,9 +1,5 @@
-pub mod Orders
-pub mod Resources
-pub mod Front
-pub mod Reach
-pub mod Configs
-pub mod Watching
+pub mod EndpointNews
+pub mod KeptAssemblies
 pub mod Laws
-pub mod Views
-pub mod Tables
+pub mod Outcomes
+pub mod RenewedConfigs

@@ -2,18 +2,12 @@
 //! (gRFC A74, A37).
 #![tactic(auto)]
 
-mod assemble;
+pub mod config_renewal;
 pub mod deps;
-mod front;
-pub mod laws;
-mod ordered;
-mod reach;
-mod sight;
-mod table;
-mod watching;
+pub mod deps_laws;
+pub mod endpoint_news;
+pub mod kept_assembly;
+pub mod leaf_sources;
 
 pub use deps::{Deps, Outcome, assembled};
-pub use laws::{fates_of_reached_keys_decide, reached_by_chains};
-
-#[cfg(test)]
-mod tests;
+pub use deps_laws::{fates_of_reached_keys_decide, reached_by_chains};

@@ -9,16 +9,16 @@ use std::marker::Model;
 use std::mem;
 use xc_base::State;
 
-/// What has a state of connectivity.
+/// What has a state of connectivity, as a balancer's tree has the state of its chosen child.
 pub trait Serves {
     ghost states: { Self → State };
 
-    /// Its state.
+    /// Its state: CONNECTING, READY or TRANSIENT_FAILURE.
     fn state(&self) -> State
         ensures { result ≡ states self.now };
 }
 
-/// What serves, and what waits to serve, if anything does.
+/// What serves, and what waits to serve, if anything does. No call of it takes memory.
 #[derive(Drop)]
 pub struct Switch<T> {
     serving: T,
@@ -34,7 +34,7 @@ impl<T> Model for Switch<T> {
 }
 
 impl<T: Serves + Drop> Switch<T> {
-    /// This one serves, and none waits. It takes no memory.
+    /// This one serves, and none waits.
     pub fn new(old: T) -> Switch<T>
         ensures { result ≡ record { serving = old; waiting = None } }
     {
@@ -44,7 +44,8 @@ impl<T: Serves + Drop> Switch<T> {
         }
     }
 
-    /// The new one waits, in place of one that waited, which is handed back. It takes no memory.
+    /// The new one waits, in place of one that waited, which is handed back. It answers `None` where
+    /// none waited.
     pub fn replace(&mut self, new: T) -> Option<T>
         ensures waits { self.new ≡ record { serving = self.old.serving; waiting = Some new } }
         ensures back { result ≡ self.old.waiting }
@@ -52,7 +53,7 @@ impl<T: Serves + Drop> Switch<T> {
         self.waiting.replace(new)
     }
 
-    /// None waits any more; one that waited is handed back. It takes no memory.
+    /// None waits any more, and one that waited is handed back. It answers `None` where none waited.
     pub fn back(&mut self) -> Option<T>
         ensures alone { self.new ≡ record { serving = self.old.serving; waiting = None } }
         ensures back { result ≡ self.old.waiting }
@@ -60,8 +61,8 @@ impl<T: Serves + Drop> Switch<T> {
         self.waiting.take()
     }
 
-    /// The one that waits takes over, unless it is CONNECTING and the old one READY. The old one is
-    /// handed back then. It takes no memory.
+    /// The one that waits takes over, unless it is CONNECTING and the old one READY. Where it takes
+    /// over, the old one is handed back. It answers `None` where the old one still serves.
     pub fn settle(&mut self) -> Option<T>
         ensures settled { self.new ≡ settled T.states self.old.serving self.old.waiting }
         ensures back { result ≡ replaced T.states self.old.serving self.old.waiting }
@@ -90,14 +91,14 @@ impl<T: Serves + Drop> Switch<T> {
         &mut self.serving
     }
 
-    /// What waits to serve, if anything does.
+    /// What waits to serve, or `None` where nothing does.
     pub fn waiting(&self) -> Option<&T>
         ensures { option_map (λ r. r.now) result ≡ self.now.waiting }
     {
         self.waiting.as_ref()
     }
 
-    /// What waits to serve, to change.
+    /// What waits to serve, to change, or `None` where nothing does.
     pub fn waiting_mut(&mut self) -> Option<&mut T>
         ensures* writes_back { sem 𝓛 (LendsIf (the_row T.row) T.row self.entry result (with_waiting self.old) self.old) }
         ensures value { option_map (λ r. r.now) result ≡ self.old.waiting }
@@ -106,6 +107,7 @@ impl<T: Serves + Drop> Switch<T> {
     }
 }
 
+/// Whether one in the state `new` waits while one in the state `old` serves.
 fn has_to_wait(old: State, new: State) -> bool
     ensures { result ≡ has_to_wait old new }
 {

@@ -1,8 +1,8 @@
 -- The faults that bytes can begin with.
 use Rattle.std.proofs.Common.{◌≡◌, ℕ, zero, suc, Bool, true, false, cond, List, [], ◌∷◌, refl, sym, ap, ◌∙◌, Option, Some, None, Result, Err}
 use Rattle.std.specs.Prelude.{◌↔◌, IsSome, is_err}
-use Rattle.grpc_framing.specs.declared.fault.FrameFault.{FrameFault}
-use Rattle.grpc_framing.specs.declared.fault.FrameFault.TheVariants.{TooLong, Ended}
+use Rattle.grpc_framing.specs.declared.frame_fault.FrameFault.{FrameFault}
+use Rattle.grpc_framing.specs.declared.frame_fault.FrameFault.TheVariants.{TooLong, Ended}
 use Rattle.grpc_framing.specs.Framing.{fault_at}
 use Rattle.grpc_framing.specs.Feeding.{answer_at, is_taken}
 

@@ -55,12 +55,12 @@ over bytes none (payload, after, allowed, is) = some_is_none (payload, after) (s
 cut_at : (bytes : List ℕ) (f : Option (List ℕ × List ℕ)) → All IsByte bytes →
     ((after : List ℕ) → length after < length bytes → All IsByte after → IsCut after (cut after)) →
     first_frame bytes ≡ f → IsCut bytes (cut bytes)
-cut_at bytes None all each is = subst (λ parts. IsCut bytes parts) (sym (cut_none bytes is)) (record { whole = refl; allowed = All-nil Allowed; over = over bytes is })
+cut_at bytes None all each is = subst (λ parts. IsCut bytes parts) (sym (cut_none bytes is)) (record { split = refl; allowed = All-nil Allowed; over = over bytes is })
 cut_at bytes (Some f) all each is =
     let w = first_whole bytes f.0 f.1 all is in
     let c = each f.1 (shorter bytes f.0 f.1 is) w.2 in
     subst (λ parts. IsCut bytes parts) (sym (cut_first bytes f.0 f.1 is)) (record {
-      whole = w.1 ∙ ap (λ xs. frame f.0 ++ xs) c.whole ∙ sym (append_assoc (frame f.0) (flat_map frame (cut f.1).payloads) (cut f.1).rest);
+      split = w.1 ∙ ap (λ xs. frame f.0 ++ xs) c.split ∙ sym (append_assoc (frame f.0) (flat_map frame (cut f.1).payloads) (cut f.1).rest);
       allowed = All-cons Allowed f.0 (cut f.1).payloads w.0 c.allowed;
       over = c.over;
     })
@@ -91,9 +91,9 @@ cut_of (payload ∷ payloads) rest allowed none =
 
 only : (bytes : List ℕ) (parts : Parts) → All IsByte bytes → IsCut bytes parts → parts ≡ cut bytes
 only bytes parts all is =
-    let bytes_all : All IsByte (flat_map frame parts.payloads ++ parts.rest) = All-same IsByte (flat_map frame parts.payloads ++ parts.rest) bytes (sym is.whole) all in
+    let bytes_all : All IsByte (flat_map frame parts.payloads ++ parts.rest) = All-same IsByte (flat_map frame parts.payloads ++ parts.rest) bytes (sym is.split) all in
     let none = none_found parts.rest (first_frame parts.rest) (right (flat_map frame parts.payloads) parts.rest bytes_all) is.over refl in
-    sym (ap cut is.whole ∙ cut_of parts.payloads parts.rest is.allowed none)
+    sym (ap cut is.split ∙ cut_of parts.payloads parts.rest is.allowed none)
 
 pub cut_is_the_only_one : (bytes : List ℕ) (parts : Parts) → All IsByte bytes → IsCut bytes parts ↔ (parts ≡ cut bytes)
 cut_is_the_only_one bytes parts all = (λ is. only bytes parts all is, λ e. subst (λ p. IsCut bytes p) (sym e) (cut_is bytes all))

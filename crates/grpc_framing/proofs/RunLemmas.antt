@@ -1,12 +1,12 @@
 -- A list of calls in whatever pieces.
 use Rattle.std.proofs.Common.{◌≡◌, ℕ, zero, suc, Bool, true, false, cond, List, [], ◌∷◌, ◌++◌, refl, sym, ap, ◌∙◌, append-nil, inl, inr, Option, Some, None, Result, Err}
 use Rattle.std.specs.Prelude.{◌⊎◌, ◌||◌, is_some}
-use Rattle.grpc_framing.specs.declared.fault.FrameFault.{FrameFault}
-use Rattle.grpc_framing.specs.declared.fault.FrameFault.TheVariants.{TooLong, Ended, Memory}
+use Rattle.grpc_framing.specs.declared.frame_fault.FrameFault.{FrameFault}
+use Rattle.grpc_framing.specs.declared.frame_fault.FrameFault.TheVariants.{TooLong, Ended, Memory}
 use Rattle.grpc_framing.specs.Framing.{Parts, fault_at}
 use Rattle.grpc_framing.specs.Cut.{cut, cut_within}
 use Rattle.grpc_framing.specs.Feeding.{answer_at, answer_after, answer_to, is_taken, left_by}
-use Rattle.grpc_framing.specs.Runs.{Call, IsRun, AreFramed, AreAnswered, bytes_fed, payloads_added, waiting_after, is_fault, had_fault, answer_in}
+use Rattle.grpc_framing.specs.FeedRuns.{Call, IsRun, AreFramed, AreAnswered, bytes_fed, payloads_added, waiting_after, is_fault, had_fault, answer_in}
 use Rattle.grpc_framing.proofs.CutLemmas.{cut_more}
 use Rattle.grpc_framing.proofs.FaultLemmas.{taken_at}
 

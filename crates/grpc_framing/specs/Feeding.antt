@@ -1,7 +1,7 @@
 -- What one call of `feed` answers, adds and leaves.
 use Rattle.std.specs.Prelude.{ℕ, List, [], ◌++◌, Bool, true, false, Option, None, Some, Result, Ok, Err, if◌then◌else◌}
-use Rattle.grpc_framing.specs.declared.fault.FrameFault.{FrameFault}
-use Rattle.grpc_framing.specs.declared.fault.FrameFault.TheVariants.{Compressed, TooLong, Ended, Memory}
+use Rattle.grpc_framing.specs.declared.frame_fault.FrameFault.{FrameFault}
+use Rattle.grpc_framing.specs.declared.frame_fault.FrameFault.TheVariants.{Compressed, TooLong, Ended, Memory}
 use Rattle.grpc_framing.specs.Framing.{fault_at}
 use Rattle.grpc_framing.specs.Cut.{cut}
 

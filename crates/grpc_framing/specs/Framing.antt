@@ -2,8 +2,8 @@
 use Rattle.std.specs.Prelude.{◌≡◌, ℕ, zero, suc, ◌≤◌, List, [], ◌∷◌, ◌++◌, length, take, All, Option, None, Some, ◌&&◌, nat_le, nat_lt, if◌then◌else◌}
 use Rattle.std.specs.List.{flat_map}
 use Rattle.std.specs.Int.{w32, to_be_bytes, from_be_bytes}
-use Rattle.grpc_framing.specs.declared.fault.FrameFault.{FrameFault}
-use Rattle.grpc_framing.specs.declared.fault.FrameFault.TheVariants.{Compressed, TooLong}
+use Rattle.grpc_framing.specs.declared.frame_fault.FrameFault.{FrameFault}
+use Rattle.grpc_framing.specs.declared.frame_fault.FrameFault.TheVariants.{Compressed, TooLong}
 
 -- the most bytes that a payload may have here
 abbrev pub longest : ℕ
@@ -24,7 +24,7 @@ pub record Parts : Type 0 where
 
 -- the bytes are those frames in their order and then the rest, which begins with no frame
 pub record IsCut (bytes : List ℕ) (parts : Parts) : Type 0 where
-  pub whole : bytes ≡ flat_map frame parts.payloads ++ parts.rest
+  pub split : bytes ≡ flat_map frame parts.payloads ++ parts.rest
   pub allowed : All (λ payload. length payload ≤ longest) parts.payloads
   pub over : BeginsWithFrame parts.rest → ⊥
 

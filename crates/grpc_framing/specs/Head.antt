@@ -1,9 +1,9 @@
 -- What a head says of the bytes that it was read from.
 use Rattle.std.specs.Borrow.{Bor}
 use Rattle.std.specs.Prelude.{ℕ, List, Option, None, Some}
-use Rattle.grpc_framing.specs.declared.fault.FrameFault.{FrameFault}
-use Rattle.grpc_framing.specs.declared.head.Head.{Head}
-use Rattle.grpc_framing.specs.declared.head.Head.TheVariants as head
+use Rattle.grpc_framing.specs.declared.frame_fault.FrameFault.{FrameFault}
+use Rattle.grpc_framing.specs.declared.frame_head.Head.{Head}
+use Rattle.grpc_framing.specs.declared.frame_head.Head.TheVariants as head
 
 abbrev pub frame_of : Head → Option (List ℕ × List ℕ)
 frame_of (head.Frame payload after) = Some (payload.now, after.now)

@@ -2,5 +2,5 @@ pub mod Cut
 pub mod Feeding
 pub mod Framing
 pub mod Head
-pub mod Laws
-pub mod Runs
+pub mod FrameLaws
+pub mod FeedRuns

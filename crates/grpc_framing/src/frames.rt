@@ -4,14 +4,14 @@ ghost use Rattle.grpc_framing.specs.Cut.{cut};
 ghost use Rattle.grpc_framing.specs.Feeding.{answer_to, added_by, left_by};
 ghost use Rattle.grpc_framing.specs.Framing.{fault_at};
 
-use crate::fault::FrameFault;
-use crate::head::{can_follow, first_frame};
+use crate::frame_fault::FrameFault;
+use crate::frame_head::{can_follow, first_frame};
 use std::alloc::Global;
 use std::marker::Model;
 use xc_base::{List, Memory};
 
-/// Adds the payloads of all whole frames, and gives how many bytes these frames have. Without memory
-/// some payloads may have been added.
+/// Adds the payloads of the frames that bytes begin with, and gives how many bytes these frames have. For want of
+/// memory some payloads may have been added.
 fn take_frames(alloc: Global, bytes: &[u8], out: &mut List<List<u8>>) -> Result<usize, Memory>
     ensures within { IfOk result (λ taken. taken ≤ length bytes.now) }
     ensures payloads { OnOk result (out.new ≡ out.old ++ (cut bytes.now).payloads) }
@@ -26,7 +26,8 @@ fn take_frames(alloc: Global, bytes: &[u8], out: &mut List<List<u8>>) -> Result<
     Ok(bytes.len() - rest.len())
 }
 
-/// What came after the last whole frame. Contracts see it as these bytes.
+/// The bytes that came after the last frame that is complete (gRPC over HTTP/2, Length-Prefixed-Message).
+/// Contracts see it as these bytes.
 #[derive(Drop)]
 pub struct Frames {
     waiting: Vec<u8>,
@@ -50,8 +51,9 @@ impl Frames {
         }
     }
 
-    /// Adds the payloads of the frames that the piece completes. Where no frame can follow, it answers
-    /// why, and every later call answers `Ended` and changes nothing. Without memory nothing changes.
+    /// Adds the payloads of the frames that the piece completes, in their order. Where no frame can follow, it
+    /// answers `Compressed` or `TooLong`, and every later call answers `Ended` and changes nothing. For want of
+    /// memory nothing changes.
     pub fn feed(&mut self, piece: &[u8], out: &mut List<List<u8>>) -> Result<(), FrameFault>
         ensures answer { (result ≡ Err FrameFault.Memory) ⊎ (result ≡ answer_to self.old piece.now) }
         ensures ended { (result ≡ Err FrameFault.Ended) ↔ IsSome (fault_at self.old) }
@@ -66,7 +68,7 @@ impl Frames {
         self.waiting.extend_from_slice(piece)?;
         match take_frames(*self.waiting.allocator(), &self.waiting, out) {
             Ok(taken) => {
-                // Bytes that wait stay where they are until their frame is whole. What is left then is
+                // Bytes that wait stay where they are until their frame is complete. What is left then is
                 // no more than the piece.
                 self.waiting.drain(..taken);
                 can_follow(&self.waiting)

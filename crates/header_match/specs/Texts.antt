@@ -9,13 +9,13 @@ folded no_case text = if no_case then str_to_ascii_lowercase text else text
 abbrev pub is_same : Bool → List ℕ → List ℕ → Bool
 is_same no_case text other = bytes_eq (folded no_case text) (folded no_case other)
 
--- the front is what the text begins with
+-- the prefix is what the text begins with
 abbrev pub begins_with : Bool → List ℕ → List ℕ → Bool
-begins_with no_case text front = is_same no_case (take (length front) text) front
+begins_with no_case text prefix = is_same no_case (take (length prefix) text) prefix
 
--- the back is what the text ends with
+-- the suffix is what the text ends with
 abbrev pub ends_with : Bool → List ℕ → List ℕ → Bool
-ends_with no_case text back = is_same no_case (drop (length text - length back) text) back
+ends_with no_case text suffix = is_same no_case (drop (length text - length suffix) text) suffix
 
 -- the part begins at some place of the text
 abbrev pub contains : Bool → List ℕ → List ℕ → Bool

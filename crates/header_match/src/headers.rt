@@ -9,8 +9,10 @@ use crate::texts::{begins_with, contains, ends_with, is_same};
 use std::alloc::Global;
 use xc_base::{Call, Header, Memory};
 
-/// Whether a call meets a header rule (gRFC A28). It takes memory only where several values of one
-/// name are joined or a pattern runs.
+/// Whether a call meets a header rule (gRFC A28). Names are compared without ASCII case, several values
+/// of one name are one with a comma between each two, a header whose name ends with `-bin` is absent,
+/// and `content-type` is `application/grpc` for all calls. It takes memory only where several values
+/// are joined or a pattern runs.
 pub fn header_met(alloc: Global, rule: &HeaderRule, call: &Call) -> Result<bool, Memory>
     ensures { IfOk result (λ met. met ≡ header_met rule.now call.now) }
 {
@@ -30,20 +32,20 @@ pub fn header_met(alloc: Global, rule: &HeaderRule, call: &Call) -> Result<bool,
     match place_of(name, rest) {
         None => test_met(rule, Some(value)),
         Some(_) => {
-            let joined = joined(alloc, value, name, rest)?;
+            let joined = join_values(alloc, value, name, rest)?;
             test_met(rule, Some(joined.as_str()))
         }
     }
 }
 
-// The place of the first header of a name.
+/// The place of the first header of a name, from 0.
 fn place_of(name: &[u8], headers: &[Header]) -> Option<usize>
     ensures { result ≡ position (λ h. is_same true h.name name.now) headers.now }
 {
     headers.iter().position(|header| is_same(header.name.as_str().as_bytes(), name, true))
 }
 
-// Whether the value of a header, if it has one, meets the test of a rule.
+/// Whether the value of a header, if it is there, meets the test of a rule.
 fn test_met(rule: &HeaderRule, value: Option<&str>) -> Result<bool, Memory>
     ensures { IfOk result (λ met. met ≡ test_met rule.now.invert rule.now.test (option_map (λ v. v.now) value.entry)) }
 {
@@ -54,6 +56,7 @@ fn test_met(rule: &HeaderRule, value: Option<&str>) -> Result<bool, Memory>
     }
 }
 
+/// Whether a value meets a test, before any inversion.
 fn value_met(test: &HeaderTest, value: &str) -> Result<bool, Memory>
     ensures { IfOk result (λ met. met ≡ value_met test.now value.now) }
 {
@@ -70,6 +73,7 @@ fn value_met(test: &HeaderTest, value: &str) -> Result<bool, Memory>
     }
 }
 
+/// Whether a value meets a test of text without ASCII case.
 fn no_case_met(test: &TextTest, value: &[u8]) -> bool
     ensures { result ≡ no_case_met test.now value.now }
 {
@@ -81,6 +85,7 @@ fn no_case_met(test: &TextTest, value: &[u8]) -> bool
     }
 }
 
+/// Whether a text writes a number of the range: an optional `-` and decimal digits.
 fn is_in_range(start: i64, end: i64, text: &str) -> bool
     ensures { result ≡ is_in_range start end text.now }
 {
@@ -93,21 +98,22 @@ fn is_in_range(start: i64, end: i64, text: &str) -> bool
     }
 }
 
-// Whether the text begins with a plus sign, which `parse` would take.
+/// Whether the text begins with a plus sign, which `parse` would take.
 fn has_plus(text: &str) -> bool
     ensures { result ≡ (slice_index text.now 0 == 43) }
 {
     text.starts_with('+')
 }
 
+/// Whether a number is at least `start` and below `end`.
 fn is_between(start: i64, end: i64, number: i64) -> bool
     ensures { result ≡ (not (int_lt number start) && int_lt number end) }
 {
     start <= number && number < end
 }
 
-// A value, and after it those of the other headers of a name, with a comma before each.
-fn joined(alloc: Global, first: &str, name: &[u8], rest: &[Header]) -> Result<String, Memory>
+/// A value, and after it those of the other headers of a name, with a comma before each.
+fn join_values(alloc: Global, first: &str, name: &[u8], rest: &[Header]) -> Result<String, Memory>
     ensures { IfOk result (λ text. string_bytes text ≡ join_with_byte 44 (first.now ∷ values_of name.now rest.now)) }
 {
     let mut text = String::from_str(alloc, first)?;
@@ -117,6 +123,7 @@ fn joined(alloc: Global, first: &str, name: &[u8], rest: &[Header]) -> Result<St
     Ok(text)
 }
 
+/// Adds the value of a header, after a comma, where the header has this name.
 fn add_value(text: &mut String, name: &[u8], header: &Header) -> Result<(), Memory>
     ensures { OnOk result (string_bytes text.new ≡ string_bytes text.old ++ (if is_same true header.now.name name.now then 44 ∷ header.now.value else [])) }
 {

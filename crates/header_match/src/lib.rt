@@ -13,6 +13,3 @@ pub use pattern::Pattern;
 pub use patterns::{PatternFault, Patterns};
 pub use regex_patterns::{CountedPatterns, RegexPatterns};
 pub use rule::{HeaderRule, HeaderTest, TextTest};
-
-#[cfg(test)]
-mod tests;

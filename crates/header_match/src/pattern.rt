@@ -1,4 +1,4 @@
-//! A pattern.
+//! A pattern, which a text meets as a whole.
 ghost use Rattle.std.specs.Prelude.{◌≡◌, ◌==◌, IfOk, string_bytes};
 ghost use Rattle.std.specs.Cmp.{partial_equiv_from_equiv};
 ghost use Rattle.std.specs.Cmp.Lexicographic.{pointwise, nat_list_eq_equiv};
@@ -35,14 +35,14 @@ impl Model for Pattern {
 }
 
 impl Pattern {
-    /// Its text.
+    /// The text that it was built from.
     pub fn as_str(&self) -> &str
         ensures { result.now ≡ self.now }
     {
         self.text.as_str()
     }
 
-    /// Whether the pattern meets the whole text.
+    /// Whether the pattern matches all of the text, and not a part of it alone. It takes memory to run.
     pub fn meets(&self, text: &str) -> Result<bool, Memory>
         ensures { IfOk result (λ met. met ≡ meets self.now text.now) }
     {
@@ -50,19 +50,20 @@ impl Pattern {
         Ok(matcher.is_match(text))
     }
 
-    // The pattern of a text, where `regex` accepts both the text and its anchored form.
+    /// The pattern of a text, where `regex` accepts both the text and its anchored form.
     pub(crate) fn build(alloc: Global, text: &str) -> Result<Pattern, PatternFault>
         ensures { IfOk result (λ p. p ≡ text.now) }
     {
         Regex::new(alloc, text)?;
-        let whole = anchored_text(alloc, text)?;
-        let regex = Regex::new(alloc, whole.as_str())?;
+        let anchored = anchored_text(alloc, text)?;
+        let regex = Regex::new(alloc, anchored.as_str())?;
         let regex = Shared::new(alloc, regex)?;
         let text = Text::from_str(alloc, text)?;
         Ok(Pattern { alloc, text, regex })
     }
 }
 
+/// The pattern from the start of a text to its end.
 #[tactic(auto, unfolding(crate::specs::Meets::anchored))]
 fn anchored_text(alloc: Global, text: &str) -> Result<String, Memory>
     ensures { IfOk result (λ s. string_bytes s ≡ anchored text.now) }

@@ -16,14 +16,14 @@ pub enum PatternFault {
     Memory,
 }
 
-/// What builds patterns. It keeps the list of the texts that it refused.
+/// Who builds patterns. It keeps the list of the texts that it refused, in their order.
 pub trait Patterns {
     ghost use Rattle.std.specs.Prelude.{List, ℕ};
 
     ghost refused: { Self → List (List ℕ) };
 
     /// The pattern of a text. Where it answers `Refused` it adds the text at the end of the refused
-    /// ones, and else it adds nothing.
+    /// ones, and else, also for want of memory, it adds nothing.
     fn build(&mut self, text: &str) -> Result<Pattern, PatternFault>
         ensures built { IfOk result (λ p. p ≡ text.now) }
         ensures refused { refused self.new ≡ refused_after (refused self.old) text.now result };

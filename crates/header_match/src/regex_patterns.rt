@@ -32,7 +32,7 @@ impl RegexPatterns {
         self.refused.as_slice()
     }
 
-    // The answer for a text that is refused, which is kept.
+    /// The answer for a text that is refused, which is added to the refused ones.
     fn refuse(&mut self, text: &str) -> PatternFault
         ensures { ⟦<RegexPatterns as Patterns>⟧.refused self.new ≡ after_fault (⟦<RegexPatterns as Patterns>⟧.refused self.old) text.now result }
     {
@@ -94,6 +94,7 @@ impl Patterns for CountedPatterns {
     }
 }
 
+/// Whether a text stands in a list.
 fn has_text(texts: &[Text], text: &str) -> bool
     ensures { IsTrue result ↔ Contains texts.now text.now }
 {

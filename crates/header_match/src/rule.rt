@@ -2,7 +2,8 @@
 use crate::pattern::Pattern;
 use xc_base::{Same, Text};
 
-/// A rule on the header of a name (Envoy's `HeaderMatcher`).
+/// A rule on the header of a name (Envoy's `HeaderMatcher`). Where `invert` is true, a header that is
+/// there must fail the test.
 #[derive(Debug, Drop, PartialEq, Eq)]
 pub struct HeaderRule {
     pub name: Text,
@@ -10,13 +11,13 @@ pub struct HeaderRule {
     pub invert: bool,
 }
 
-/// A test of a header's value.
+/// A test of a header's value, by its bytes.
 #[derive(Debug, Drop, PartialEq, Eq)]
 pub enum HeaderTest {
     Exact(Text),
-    /// A number of at least `start` and below `end`.
+    /// A decimal number of at least `start` and below `end`.
     Range { start: i64, end: i64 },
-    /// Whether the header is there.
+    /// Whether the header is there: it has to be where this is true, and must not be where it is false.
     Present(bool),
     Prefix(Text),
     Suffix(Text),
@@ -26,7 +27,7 @@ pub enum HeaderTest {
     NoCase(TextTest),
 }
 
-/// A test of a text.
+/// A test of a text without ASCII case.
 #[derive(Debug, Drop, PartialEq, Eq)]
 pub enum TextTest {
     Exact(Text),

@@ -15,24 +15,24 @@ pub fn is_same(text: &[u8], other: &[u8], no_case: bool) -> bool
 }
 
 /// Whether a text begins with another.
-pub fn begins_with(text: &[u8], front: &[u8], no_case: bool) -> bool
-    ensures { result ≡ begins_with no_case text.now front.now }
+pub fn begins_with(text: &[u8], prefix: &[u8], no_case: bool) -> bool
+    ensures { result ≡ begins_with no_case text.now prefix.now }
 {
-    if text.len() < front.len() {
+    if text.len() < prefix.len() {
         return false;
     }
-    is_same(&text[..front.len()], front, no_case)
+    is_same(&text[..prefix.len()], prefix, no_case)
 }
 
 /// Whether a text ends with another.
-pub fn ends_with(text: &[u8], back: &[u8], no_case: bool) -> bool
-    ensures { result ≡ ends_with no_case text.now back.now }
+pub fn ends_with(text: &[u8], suffix: &[u8], no_case: bool) -> bool
+    ensures { result ≡ ends_with no_case text.now suffix.now }
 {
-    if text.len() < back.len() {
+    if text.len() < suffix.len() {
         return false;
     }
-    let (_, end) = text.split_at(text.len() - back.len());
-    is_same(end, back, no_case)
+    let (_, end) = text.split_at(text.len() - suffix.len());
+    is_same(end, suffix, no_case)
 }
 
 /// Whether a text has another as a part.

@@ -14,10 +14,10 @@ use Rattle.xc_base.specs.declared.names.State.{State}
 use Rattle.xc_base.specs.declared.names.State.TheVariants.{Connecting}
 use Rattle.xc_base.specs.declared.names.Time.{Time}
 use Rattle.priority_lb.specs.declared.facts.ChildFacts.{ChildFacts}
-use Rattle.priority_lb.specs.Walk.{Seen, is_ready, is_connecting, stops, is_passed, is_chosen_ready, in_order, is_reached, is_behind_ready, chosen}
+use Rattle.priority_lb.specs.ChildWalk.{Seen, is_ready, is_connecting, stops, is_passed, is_chosen_ready, in_order, is_reached, is_behind_ready, chosen}
 use Rattle.priority_lb.specs.Step.{step, carried, fresh, walk, walked}
-use Rattle.priority_lb.specs.History.{Name, same_name, Update, Mark, Trail, reached_of, behind_of, seen_at, names_of, trail_of, next_trail, trails}
-use Rattle.priority_lb.specs.Law.{places, ManySteps, ChildByChild, IsPassed, child_at, trail_at, seen_in, seen_now, SameNames, PlaceByPlace}
+use Rattle.priority_lb.specs.ChildHistories.{Name, same_name, Update, Mark, Trail, reached_of, behind_of, seen_at, names_of, trail_of, next_trail, trails}
+use Rattle.priority_lb.specs.ChildLaws.{places, ManySteps, ChildByChild, IsPassed, child_at, trail_at, seen_in, seen_now, SameNames, PlaceByPlace}
 use Rattle.priority_lb.proofs.HistoryLemmas.{one_step}
 use Rattle.priority_lb.proofs.WalkLemmas.{length-in_order}
 

@@ -8,10 +8,10 @@ use Rattle.std.proofs.Math.ListN.{get_or-map}
 use Rattle.xc_base.specs.declared.names.State.{State}
 use Rattle.xc_base.specs.declared.names.Time.{Time}
 use Rattle.priority_lb.specs.declared.facts.ChildFacts.{ChildFacts}
-use Rattle.priority_lb.specs.Walk.{is_connecting, in_order, is_reached, is_behind_ready, chosen}
+use Rattle.priority_lb.specs.ChildWalk.{is_connecting, in_order, is_reached, is_behind_ready, chosen}
 use Rattle.priority_lb.specs.Step.{fresh, is_within, was_reached, unused_after, there_after, connecting_after, timed_after, is_pending, with_there, facts_after, Walked, seen, walked, walk, carried}
-use Rattle.priority_lb.specs.History.{Name, same_name, Update, Mark, Trail, now_of, before, first_of, ever_reached, after_reached, unused_from, is_there, connecting_run, connecting_from, is_away_or_ready, is_pending_at, facts, reached_of, seen_at, names_of, trail_of, next_trail, trails}
-use Rattle.priority_lb.specs.Law.{places, start, OneStep}
+use Rattle.priority_lb.specs.ChildHistories.{Name, same_name, Update, Mark, Trail, now_of, before, first_of, ever_reached, after_reached, unused_from, is_there, connecting_run, connecting_from, is_away_or_ready, is_pending_at, facts, reached_of, seen_at, names_of, trail_of, next_trail, trails}
+use Rattle.priority_lb.specs.ChildLaws.{places, start, OneStep}
 
 abbrev mark : Time → State → Bool → Bool → Mark
 mark now s reached behind = record { now = now; state = s; reached = reached; behind = behind }

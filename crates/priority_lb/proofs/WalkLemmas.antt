@@ -11,7 +11,7 @@ use Rattle.std.proofs.Math.ListN.{drop_of_length-le}
 use Rattle.xc_base.specs.declared.names.State.{State}
 use Rattle.xc_base.specs.declared.names.Time.{Time}
 use Rattle.priority_lb.specs.declared.facts.ChildFacts.{ChildFacts}
-use Rattle.priority_lb.specs.Walk.{Seen, is_ready, is_connecting, stops, is_passed, is_chosen_ready, in_order, is_reached, is_behind_ready, chosen}
+use Rattle.priority_lb.specs.ChildWalk.{Seen, is_ready, is_connecting, stops, is_passed, is_chosen_ready, in_order, is_reached, is_behind_ready, chosen}
 use Rattle.priority_lb.specs.Step.{facts_after, Walked, seen, walked, walk, step}
 
 in_order_more : {A B : Type 0} (f : List B → A → B) (before : List B) (xs : List A) (y : A) → in_order f before (xs ++ y ∷ []) ≡ in_order f before xs ++ f (before ++ in_order f before xs) y ∷ []

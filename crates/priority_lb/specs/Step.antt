@@ -8,7 +8,7 @@ use Rattle.xc_base.specs.declared.names.State.TheVariants.{Connecting}
 use Rattle.xc_base.specs.declared.names.Time.{Time}
 use Rattle.priority_lb.specs.declared.facts.ChildFacts.{ChildFacts}
 use Rattle.priority_lb.specs.declared.view.ChildView.{ChildView}
-use Rattle.priority_lb.specs.Walk.{Seen, is_ready, is_connecting, in_order, is_reached, is_behind_ready}
+use Rattle.priority_lb.specs.ChildWalk.{Seen, is_ready, is_connecting, in_order, is_reached, is_behind_ready}
 
 -- a child that no update has seen
 abbrev pub fresh : ChildFacts

@@ -2,7 +2,7 @@
 ghost use Rattle.std.specs.Prelude.{◌≡◌, ◌<◌, ◌^◌, ◌&&◌, ◌||◌, ◌-◌, Some, None, not, if◌then◌else◌, length, map, get_or, replicate, All, IfSome, IfOk, unwrap_or};
 ghost use Rattle.std.specs.Option.{option_map_or, option_or};
 ghost use Rattle.std.specs.List.{position_from};
-ghost use Rattle.priority_lb.specs.Walk.{chosen, stops, is_ready, is_connecting};
+ghost use Rattle.priority_lb.specs.ChildWalk.{chosen, stops, is_ready, is_connecting};
 ghost use Rattle.priority_lb.specs.Step.{fresh, seen, walk, step, carried, view_of};
 
 use crate::facts::{ChildFacts, FRESH, is_connecting, is_ready};
@@ -11,7 +11,8 @@ use std::alloc::Global;
 use std::marker::Model;
 use xc_base::{Memory, State, Time};
 
-/// The children of a priority balancer in their order, which contracts see as what is kept of each.
+/// The children of a priority balancer in their order, of which there are 1 to 2^32 - 1 (gRFC A56).
+/// Contracts see them as what is kept of each.
 #[derive(Drop)]
 pub struct Children {
     alloc: Global,
@@ -30,7 +31,7 @@ impl Model for Children {
 }
 
 impl Children {
-    /// As many children, which no update has seen.
+    /// As many children, which no update has seen, or want of memory.
     pub fn new(alloc: Global, count: u32) -> Result<Children, Memory>
         requires { 0 < count }
         ensures { IfOk result (λ children. children ≡ replicate count fresh) }
@@ -39,8 +40,9 @@ impl Children {
         Ok(Children { alloc, children })
     }
 
-    /// One update with a state for each child, which answers the place of the chosen one. It takes no
-    /// memory.
+    /// One update with the state of each child and the time in milliseconds. It answers the place of
+    /// the chosen child, from 0, and takes no memory. The first child that is reached and READY or
+    /// pending is chosen, else the first that is CONNECTING, else the last.
     pub fn update(&mut self, states: &[State], now: Time) -> u32
         requires { length states.now ≡ length self.old }
         ensures step { self.new ≡ step now self.old states.now }
@@ -59,7 +61,8 @@ impl Children {
         self.children[place as usize].view()
     }
 
-    /// The children of a new list, each from its old place or new.
+    /// The children of a new list, each as it was at its old place, or one that no update has seen; or
+    /// want of memory.
     pub fn carried(&self, from: &[Option<u32>]) -> Result<Children, Memory>
         requires some { 0 < length from.now }
         requires few { length from.now < 2 ^ 32 }
@@ -77,6 +80,7 @@ impl Children {
     }
 }
 
+/// The child that was at the place, or one that no update has seen.
 fn carried_from(children: &[ChildFacts], place: Option<u32>) -> ChildFacts
     requires { IfSome place (λ p. p < length children.now) }
     ensures { result ≡ option_map_or (λ p. get_or children.now p fresh) place fresh }
@@ -87,6 +91,7 @@ fn carried_from(children: &[ChildFacts], place: Option<u32>) -> ChildFacts
     }
 }
 
+/// Updates each child, and answers the place of the chosen one.
 fn update_all(children: &mut [ChildFacts], states: &[State], now: Time) -> u32
     requires same { length states.now ≡ length children.old }
     requires some { 0 < length children.old }
@@ -121,36 +126,42 @@ fn walk(children: &mut [ChildFacts], states: &[State], now: Time) -> Option<usiz
     stop
 }
 
+/// The first place at which a walk stops, where it may stop at one place more.
 fn first_stop(stop: Option<usize>, stops: bool, place: usize) -> Option<usize>
     ensures { result ≡ option_or stop (if stops then Some place else None) }
 {
     stop.or(stops.then_some(place))
 }
 
+/// Whether a walk stops at a child.
 fn stops_at(reached: bool, stops: bool) -> bool
     ensures { result ≡ (reached && stops) }
 {
     reached && stops
 }
 
+/// Whether a walk goes on behind a child.
 fn passes(reached: bool, stops: bool) -> bool
     ensures { result ≡ (reached && not stops) }
 {
     reached && !stops
 }
 
+/// Whether the next child stands behind a chosen one that is READY.
 fn is_behind(behind: bool, reached: bool, child: ChildFacts) -> bool
     ensures { result ≡ (behind || (reached && is_ready child.state)) }
 {
     behind || (reached && is_ready(child.state))
 }
 
+/// The place of the first child that is CONNECTING.
 fn first_connecting(children: &[ChildFacts]) -> Option<usize>
     ensures { result ≡ position_from (λ child. is_connecting child.state) 0 children.now }
 {
     children.iter().position(|child| is_connecting(child.state))
 }
 
+/// The place at which the walk stops, else that of the first CONNECTING child, else the last one.
 fn place_or_last(stop: Option<usize>, connecting: Option<usize>, len: usize) -> usize
     requires { 0 < len }
     ensures { result ≡ unwrap_or stop (unwrap_or connecting (len - 1)) }

@@ -1,27 +1,32 @@
 //! What is kept of a child, and one update of it.
 ghost use Rattle.std.specs.Prelude.{◌≡◌, ◌||◌};
 ghost use Rattle.std.specs.Option.{option_map_or};
-ghost use Rattle.priority_lb.specs.Walk.{is_connecting, is_ready, stops};
+ghost use Rattle.priority_lb.specs.ChildWalk.{is_connecting, is_ready, stops};
 ghost use Rattle.priority_lb.specs.Step.{fresh, is_within, was_reached, unused_after, there_after, connecting_after, timed_after, is_pending, facts_after, view_of};
 
 use crate::view::ChildView;
 use xc_base::{State, Time};
 
-/// How long a child that is out of use is kept, in milliseconds.
+/// How long a child that is out of use is kept, in milliseconds: gRFC A56's deactivation timer.
 const RETENTION: u64 = 900_000;
 
-/// How long a failover timer runs, in milliseconds.
+/// How long a failover timer runs, in milliseconds (gRFC A56).
 const FAILOVER: u64 = 10_000;
 
 /// What is kept of a child.
-#[derive(Clone, Copy, Debug)]
+#[derive(Clone, Copy)]
 pub(crate) struct ChildFacts {
+    /// Whether it exists.
     pub(crate) there: bool,
+    /// The state that it had at the last update.
     pub(crate) state: State,
+    /// Whether its failover timer runs.
     pub(crate) pending: bool,
+    /// Since when it has been CONNECTING without a break.
     pub(crate) connecting_since: Option<Time>,
     /// Whether it was created CONNECTING or went from READY to CONNECTING.
     pub(crate) timed: bool,
+    /// Since when it has been out of use.
     pub(crate) unused_since: Option<Time>,
 }
 
@@ -61,6 +66,7 @@ impl ChildFacts {
         is_ready(self.state) || self.pending
     }
 
+    /// What is seen of it.
     pub(crate) fn view(self) -> ChildView
         ensures { result ≡ view_of self }
     {
@@ -72,12 +78,14 @@ impl ChildFacts {
         }
     }
 
+    /// Whether a walk has reached it since it was named.
     fn was_reached(self) -> bool
         ensures { result ≡ was_reached self }
     {
         self.there || self.unused_since.is_some()
     }
 
+    /// Since when it is out of use after an update.
     fn unused_after(self, reached: bool, behind: bool, now: Time) -> Option<Time>
         ensures { result ≡ unused_after reached behind now self }
     {
@@ -90,12 +98,14 @@ impl ChildFacts {
         }
     }
 
+    /// Whether it exists after an update.
     fn there_after(self, reached: bool, now: Time, unused_since: Option<Time>) -> bool
         ensures { result ≡ there_after reached now self unused_since }
     {
         (reached || self.was_reached()) && is_within_since(RETENTION, now, unused_since, true)
     }
 
+    /// Since when it is CONNECTING after an update.
     fn connecting_after(self, there: bool, state: State, now: Time) -> Option<Time>
         ensures { result ≡ connecting_after there now state self }
     {
@@ -106,6 +116,7 @@ impl ChildFacts {
         }
     }
 
+    /// Whether a failover timer belongs to its being CONNECTING after an update.
     fn timed_after(self, there: bool, state: State) -> bool
         ensures { result ≡ timed_after there state self }
     {
@@ -119,24 +130,28 @@ impl ChildFacts {
     }
 }
 
+/// Whether the state is READY.
 pub(crate) fn is_ready(state: State) -> bool
     ensures { result ≡ is_ready state }
 {
     matches!(state, State::Ready)
 }
 
+/// Whether the state is CONNECTING.
 pub(crate) fn is_connecting(state: State) -> bool
     ensures { result ≡ is_connecting state }
 {
     matches!(state, State::Connecting)
 }
 
+/// Whether fewer milliseconds than the limit have passed.
 fn is_within(limit: u64, now: Time, since: Time) -> bool
     ensures { result ≡ is_within limit now since }
 {
     now.0.saturating_sub(since.0) < limit
 }
 
+/// The same since a time, or the given answer where there is none.
 fn is_within_since(limit: u64, now: Time, since: Option<Time>, never: bool) -> bool
     ensures { result ≡ option_map_or (λ since. is_within limit now since) since never }
 {
@@ -146,6 +161,7 @@ fn is_within_since(limit: u64, now: Time, since: Option<Time>, never: bool) -> b
     }
 }
 
+/// Whether the failover timer runs.
 fn is_pending(timed: bool, now: Time, connecting_since: Option<Time>) -> bool
     ensures { result ≡ is_pending timed now connecting_since }
 {

@@ -4,7 +4,7 @@
 use Rattle.std.specs.Prelude.{ℕ, List, [], ◌∷◌, option_map, Result, Ok}
 use Rattle.proto_wire.specs.Oneof.{read_member, if_set, ◌or◌}
 use Rattle.proto_wire.specs.Reading.{◌>>=◌}
-use Rattle.proto_wire.specs.Values.{last_text, last_uint32, joined, occurring, oneof_of, read_singular}
+use Rattle.proto_wire.specs.Values.{last_text, last_uint32, joined, occurrences, oneof_of, read_singular}
 use Rattle.proto_wire.specs.Wire.{fields}
 use Rattle.proto_wire.specs.declared.field.Member.TheVariants.{Bytes, Varint}
 use Rattle.proto_discovery.specs.Any.{any_of}
@@ -31,7 +31,7 @@ eds_of bs = do
 unfoldable pub cluster_of : List ℕ → Result RawCluster ℕ
 cluster_of bs = do
   fs ← fields bs
-  members ← Ok (occurring (Varint 2 ∷ Bytes 38 ∷ []) fs)
+  members ← Ok (occurrences (Varint 2 ∷ Bytes 38 ∷ []) fs)
   set ← Ok (oneof_of (2 ∷ 38 ∷ []) members)
   name ← last_text 1 fs
   discovery ← Ok (last_uint32 2 fs)

@@ -10,22 +10,26 @@ use std::alloc::Global;
 use xc_base::{List, Text};
 
 /// A DropOverload: a part of the calls that is dropped.
-#[derive(Clone, Debug, Drop, PartialEq, Eq)]
+#[derive(Drop)]
 pub struct RawDrop {
+    /// The name under which dropped calls are counted.
     pub category: Text,
+    /// The part of the calls.
     pub drop_percentage: Option<RawFractionalPercent>,
 }
 
 /// The Policy of a ClusterLoadAssignment.
-#[derive(Clone, Debug, Drop, PartialEq, Eq)]
+#[derive(Drop)]
 pub struct RawPolicy {
+    /// The rules in the order in which they are tried.
     pub drop_overloads: List<RawDrop>,
 }
 
-/// A ClusterLoadAssignment.
-#[derive(Clone, Debug, Drop, PartialEq, Eq)]
+/// A ClusterLoadAssignment (gRFC A27).
+#[derive(Drop)]
 pub struct RawAssignment {
     pub cluster_name: Text,
+    /// The localities with their endpoints.
     pub endpoints: List<RawLocalityLbEndpoints>,
     pub policy: Option<RawPolicy>,
 }

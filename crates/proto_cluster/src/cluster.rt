@@ -7,41 +7,45 @@ ghost use Rattle.proto_cluster.specs.declared.cluster.RawClusterOne.TheVariants.
 use proto_discovery::AnyValue;
 use proto_route::RawConfigSource;
 use proto_wire::{
-    Member, Message, WireFault, fields, if_set, joined, last_text, last_uint32, occurring,
+    Member, Message, WireFault, fields, if_set, joined, last_text, last_uint32, occurrences,
     oneof_of, read_member, read_singular,
 };
 use std::alloc::Global;
 use xc_base::{List, Text};
 
 /// A CustomClusterType.
-#[derive(Clone, Debug, Drop, PartialEq, Eq)]
+#[derive(Drop)]
 pub struct RawClusterType {
     pub name: Text,
+    /// Its configuration, as a message of any type.
     pub typed_config: Option<AnyValue>,
 }
 
 /// An EdsClusterConfig.
-#[derive(Clone, Debug, Drop, PartialEq, Eq)]
+#[derive(Drop)]
 pub struct RawEds {
+    /// Where the endpoints come from.
     pub eds_config: Option<RawConfigSource>,
     /// The name of the endpoints' resource, empty where it is that of the cluster.
     pub service_name: Text,
 }
 
 /// How the endpoints of a cluster are found.
-#[derive(Clone, Debug, Drop, PartialEq, Eq)]
+#[derive(Drop)]
 pub enum RawClusterOne {
     /// `type`: the number of a DiscoveryType.
     Discovery(u32),
+    /// `cluster_type`: a type of its own, as an aggregate (gRFC A37).
     ClusterType(RawClusterType),
 }
 
-/// A Cluster.
-#[derive(Clone, Debug, Drop, PartialEq, Eq)]
+/// A Cluster (gRFC A27).
+#[derive(Drop)]
 pub struct RawCluster {
     pub name: Text,
     /// How its endpoints are found, if a member is set.
     pub one: Option<RawClusterOne>,
+    /// How its endpoints are asked for.
     pub eds_cluster_config: Option<RawEds>,
     /// The number of an LbPolicy.
     pub lb_policy: u32,
@@ -82,6 +86,7 @@ impl Message for RawEds {
     }
 }
 
+/// Endpoints that are found by a type of cluster of its own.
 fn by_type(cluster_type: Option<RawClusterType>) -> Option<RawClusterOne>
     ensures { result ≡ option_map ClusterType cluster_type }
 {
@@ -96,7 +101,7 @@ impl Message for RawCluster {
     #[tactic(auto, unfolding(crate::specs::Cluster::cluster_of))]
     fn read(alloc: Global, bytes: &[u8]) -> Result<RawCluster, WireFault> {
         let list = fields(alloc, bytes)?;
-        let members = occurring(alloc, &list, &[Member::Varint(2), Member::Bytes(38)])?;
+        let members = occurrences(alloc, &list, &[Member::Varint(2), Member::Bytes(38)])?;
         let set = oneof_of(&members, &[2, 38]);
         let name = last_text(alloc, &list, 1)?;
         let discovery = last_uint32(&list, 2);

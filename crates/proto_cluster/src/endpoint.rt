@@ -3,27 +3,29 @@ use proto_wire::{Message, WireFault, fields, last_text, last_uint32, read_singul
 use std::alloc::Global;
 use xc_base::Text;
 
-/// A SocketAddress.
-#[derive(Clone, Debug, Drop, PartialEq, Eq)]
+/// A SocketAddress: a host and a port.
+#[derive(Drop)]
 pub struct RawSocket {
+    /// The host, numeric where it can be used.
     pub address: Text,
+    /// The port.
     pub port_value: u32,
 }
 
 /// An Address.
-#[derive(Clone, Debug, Drop, PartialEq, Eq)]
+#[derive(Drop)]
 pub struct RawAddress {
     pub socket_address: Option<RawSocket>,
 }
 
 /// An Endpoint.
-#[derive(Clone, Debug, Drop, PartialEq, Eq)]
+#[derive(Drop)]
 pub struct RawEndpoint {
     pub address: Option<RawAddress>,
 }
 
 /// An LbEndpoint.
-#[derive(Clone, Debug, Drop, PartialEq, Eq)]
+#[derive(Drop)]
 pub struct RawLbEndpoint {
     pub endpoint: Option<RawEndpoint>,
     /// The number of a HealthStatus.

@@ -14,6 +14,3 @@ pub use assignment::{RawAssignment, RawDrop, RawPolicy, read_assignment};
 pub use cluster::{RawCluster, RawClusterOne, RawClusterType, RawEds, read_cluster};
 pub use endpoint::{RawAddress, RawEndpoint, RawLbEndpoint, RawSocket};
 pub use locality::{RawLocality, RawLocalityLbEndpoints};
-
-#[cfg(test)]
-mod tests;

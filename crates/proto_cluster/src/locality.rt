@@ -6,21 +6,22 @@ use proto_wire::{
 use std::alloc::Global;
 use xc_base::{List, Text};
 
-/// A Locality.
-#[derive(Clone, Debug, Drop, PartialEq, Eq)]
+/// A Locality: where endpoints run.
+#[derive(Drop)]
 pub struct RawLocality {
     pub region: Text,
     pub zone: Text,
     pub sub_zone: Text,
 }
 
-/// A LocalityLbEndpoints.
-#[derive(Clone, Debug, Drop, PartialEq, Eq)]
+/// A LocalityLbEndpoints: the endpoints of one locality.
+#[derive(Drop)]
 pub struct RawLocalityLbEndpoints {
     pub locality: Option<RawLocality>,
     pub lb_endpoints: List<RawLbEndpoint>,
-    /// None where it is absent.
+    /// Its weight among the localities of its priority, none where it is absent.
     pub load_balancing_weight: Option<u32>,
+    /// Its priority, of which 0 is tried first.
     pub priority: u32,
 }
 

@@ -3,10 +3,12 @@ use proto_wire::{Message, WireFault, fields, last_bytes, last_text};
 use std::alloc::Global;
 use xc_base::{List, Memory, Text};
 
-/// A message of any type: the URL of its type, and its bytes.
-#[derive(Clone, Debug, Drop, PartialEq, Eq)]
+/// A message of any type (`google.protobuf.Any`).
+#[derive(Debug, Drop)]
 pub struct AnyValue {
+    /// The URL of its type, by which `kind_of` tells the kind of a resource.
     pub type_url: Text,
+    /// The bytes of the message.
     pub value: List<u8>,
 }
 

@@ -16,6 +16,3 @@ pub use type_urls::{
     kind_of, type_url,
 };
 pub use wrapper::{Unwrapped, unwrap_resource};
-
-#[cfg(test)]
-mod tests;

@@ -13,23 +13,27 @@ const NO_OVERPROVISIONING: &str = "envoy.lb.does_not_support_overprovisioning";
 /// The feature that says that the client takes resources in wrappers.
 const RESOURCE_IN_SOTW: &str = "xds.config.resource-in-sotw";
 
-/// The code of a refusal, INVALID_ARGUMENT of gRPC.
+/// The code of a refusal, INVALID_ARGUMENT of google.rpc.Code.
 const INVALID_ARGUMENT: u64 = 3;
 
-/// A DiscoveryRequest: the kind that is asked for, the last accepted version, the nonce of the response that it
-/// answers, the names that are asked for, the client's node on a stream's first request, and the text of
-/// a refusal.
+/// A DiscoveryRequest (Envoy's xDS transport): it asks for names of a kind, and answers the last response.
 #[derive(Clone, Debug, Drop, PartialEq, Eq)]
 pub struct Request {
+    /// The kind of the resources that are asked for.
     pub kind: Kind,
+    /// The last version that was accepted, empty before the first.
     pub version: Text,
+    /// The nonce of the response that is answered, empty before the first.
     pub nonce: Text,
+    /// The names of the resources that are asked for.
     pub names: List<Text>,
+    /// The client's node, which a stream's first request has.
     pub node: Option<Node>,
+    /// Why the response is refused, where it is (NACK).
     pub error: Option<Text>,
 }
 
-// Adds the locality of a node, unless its three texts are empty.
+/// Adds the locality of a node, unless its three texts are empty.
 #[tactic(auto, unfolding(crate::specs::Request::locality_field, crate::specs::Request::spelled_locality))]
 fn put_locality(alloc: Global, out: &mut List<u8>, node: &Node) -> Result<(), Memory>
     ensures { OnOk result (out.new ≡ out.old ++ locality_field node.now) }
@@ -44,7 +48,7 @@ fn put_locality(alloc: Global, out: &mut List<u8>, node: &Node) -> Result<(), Me
     put_bytes(alloc, out, 4, locality.as_slice())
 }
 
-// Adds what the client can do.
+/// Adds what the client can do.
 #[tactic(auto, unfolding(crate::specs::Request::feature_fields))]
 fn put_features(alloc: Global, out: &mut List<u8>) -> Result<(), Memory>
     ensures { OnOk result (out.new ≡ out.old ++ feature_fields) }
@@ -53,7 +57,7 @@ fn put_features(alloc: Global, out: &mut List<u8>) -> Result<(), Memory>
     put_bytes(alloc, out, 10, RESOURCE_IN_SOTW.as_bytes())
 }
 
-// Adds the fields of a node.
+/// Adds the fields of a node.
 #[tactic(auto, unfolding(crate::specs::Request::spelled_node))]
 fn put_node_fields(alloc: Global, out: &mut List<u8>, node: &Node) -> Result<(), Memory>
     ensures { OnOk result (out.new ≡ out.old ++ spelled_node node.now) }
@@ -64,7 +68,7 @@ fn put_node_fields(alloc: Global, out: &mut List<u8>, node: &Node) -> Result<(),
     put_features(alloc, out)
 }
 
-// Adds the client's node, if it is written.
+/// Adds the client's node, if it is written.
 fn put_node(alloc: Global, out: &mut List<u8>, node: &Option<Node>) -> Result<(), Memory>
     ensures { OnOk result (out.new ≡ out.old ++ node_field node.now) }
 {
@@ -78,7 +82,7 @@ fn put_node(alloc: Global, out: &mut List<u8>, node: &Option<Node>) -> Result<()
     }
 }
 
-// Adds the names, each as a field of its own.
+/// Adds the names, each as a field of its own.
 fn put_names(alloc: Global, out: &mut List<u8>, names: &List<Text>) -> Result<(), Memory>
     ensures { OnOk result (out.new ≡ out.old ++ name_fields names.now) }
 {
@@ -88,7 +92,7 @@ fn put_names(alloc: Global, out: &mut List<u8>, names: &List<Text>) -> Result<()
     Ok(())
 }
 
-// Adds the text of a refusal, if there is one.
+/// Adds the text of a refusal, if there is one.
 #[tactic(auto, unfolding(crate::specs::Request::spelled_status))]
 fn put_error(alloc: Global, out: &mut List<u8>, error: &Option<Text>) -> Result<(), Memory>
     ensures { OnOk result (out.new ≡ out.old ++ error_field error.now) }
@@ -102,7 +106,7 @@ fn put_error(alloc: Global, out: &mut List<u8>, error: &Option<Text>) -> Result<
     put_bytes(alloc, out, 6, status.as_slice())
 }
 
-// Adds the request's fields, in the order of their numbers.
+/// Adds the request's fields, in the order of their numbers.
 #[tactic(auto, unfolding(crate::specs::Request::spelled_request))]
 fn put_request(alloc: Global, out: &mut List<u8>, request: &Request) -> Result<(), Memory>
     ensures { OnOk result (out.new ≡ out.old ++ spelled_request request.now) }

@@ -1,5 +1,5 @@
 //! The response of a management server.
-ghost use Rattle.std.specs.Prelude.{◌<◌, ◌^◌, length};
+ghost use Rattle.std.specs.Prelude.{◌<◌, ◌≤◌, ◌^◌, length, All, IfOk};
 ghost use Rattle.proto_wire.specs.Reading.{Gives};
 ghost use Rattle.proto_discovery.specs.Response.{response_of};
 
@@ -8,13 +8,16 @@ use proto_wire::{WireFault, fields, last_text, read_repeated};
 use std::alloc::Global;
 use xc_base::{List, Text};
 
-/// A DiscoveryResponse: the version of its resources, the nonce by which it is answered, the type URL of
-/// its resources, and these, of which each tells its own type.
-#[derive(Clone, Debug, Drop, PartialEq, Eq)]
+/// A DiscoveryResponse (Envoy's xDS transport), with the fields that are read.
+#[derive(Drop)]
 pub struct Response {
+    /// The version of its resources.
     pub version: Text,
+    /// The nonce by which a request answers it.
     pub nonce: Text,
+    /// The type URL of the resources that were asked for.
     pub type_url: Text,
+    /// The resources, of which each tells its own type.
     pub resources: List<AnyValue>,
 }
 
@@ -24,7 +27,9 @@ pub struct Response {
 #[tactic(auto, unfolding(crate::specs::Response::response_of))]
 pub fn read_response(alloc: Global, bytes: &[u8]) -> Result<Response, WireFault>
     requires { length bytes.now < 2 ^ 32 }
-    ensures { Gives (λ response. response) result (response_of bytes.now) }
+    ensures reading { Gives (λ response. response) result (response_of bytes.now) }
+    // Each resource has at most as many bytes as the response.
+    ensures short { IfOk result (λ response. All (λ any. length any.value ≤ length bytes.now) response.resources) }
 {
     let list = fields(alloc, bytes)?;
     let version = last_text(alloc, &list, 1)?;

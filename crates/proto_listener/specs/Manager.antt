@@ -3,11 +3,11 @@
 use Rattle.std.specs.Prelude.{ℕ, List, [], ◌∷◌, option_map, Result, Ok}
 use Rattle.proto_wire.specs.Oneof.{read_member, ◌or◌}
 use Rattle.proto_wire.specs.Reading.{◌>>=◌}
-use Rattle.proto_wire.specs.Values.{last_text, occurring, read_singular}
+use Rattle.proto_wire.specs.Values.{last_text, occurrences, read_singular}
 use Rattle.proto_wire.specs.Wire.{fields}
 use Rattle.proto_wire.specs.declared.field.Member.TheVariants.{Bytes}
 use Rattle.proto_route.specs.ConfigSource.{config_source_of}
-use Rattle.proto_route.specs.Routes.{routes_of}
+use Rattle.proto_route.specs.RawRouteFields.{routes_of}
 use Rattle.proto_listener.specs.declared.manager.RawRds.{RawRds}
 use Rattle.proto_listener.specs.declared.manager.RawManager.{RawManager}
 use Rattle.proto_listener.specs.declared.manager.RawManagerOne.TheVariants.{Rds, RouteConfig}
@@ -22,7 +22,7 @@ rds_of bs = do
 unfoldable pub manager_of : List ℕ → Result RawManager ℕ
 manager_of bs = do
   fs ← fields bs
-  members ← Ok (occurring (Bytes 3 ∷ Bytes 4 ∷ []) fs)
+  members ← Ok (occurrences (Bytes 3 ∷ Bytes 4 ∷ []) fs)
   rds ← read_member rds_of 3 members
   route_config ← read_member routes_of 4 members
   Ok (record { one = option_map Rds rds or option_map RouteConfig route_config })

@@ -7,6 +7,3 @@ pub mod manager;
 
 pub use listener::{RawApiListener, RawListener, read_listener};
 pub use manager::{RawManager, RawManagerOne, RawRds, read_manager};
-
-#[cfg(test)]
-mod tests;

@@ -9,16 +9,17 @@ use std::alloc::Global;
 use xc_base::Text;
 
 /// An ApiListener.
-#[derive(Clone, Debug, Drop, PartialEq, Eq)]
+#[derive(Drop)]
 pub struct RawApiListener {
     /// The connection manager, as a message of any type.
     pub api_listener: Option<AnyValue>,
 }
 
-/// A Listener.
-#[derive(Clone, Debug, Drop, PartialEq, Eq)]
+/// A Listener (gRFC A27).
+#[derive(Drop)]
 pub struct RawListener {
     pub name: Text,
+    /// What a client reads of the listener.
     pub api_listener: Option<RawApiListener>,
 }
 

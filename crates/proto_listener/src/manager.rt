@@ -6,20 +6,22 @@ ghost use Rattle.proto_listener.specs.declared.manager.RawManagerOne.TheVariants
 
 use proto_route::{RawConfigSource, RawRoutes};
 use proto_wire::{
-    Member, Message, WireFault, fields, last_text, occurring, read_member, read_singular,
+    Member, Message, WireFault, fields, last_text, occurrences, read_member, read_singular,
 };
 use std::alloc::Global;
 use xc_base::Text;
 
-/// An Rds.
-#[derive(Clone, Debug, Drop, PartialEq, Eq)]
+/// An Rds: the routes are a resource of this name.
+#[derive(Drop)]
 pub struct RawRds {
+    /// Where the resource comes from.
     pub config_source: Option<RawConfigSource>,
+    /// The name of the resource.
     pub route_config_name: Text,
 }
 
-/// Whence a connection manager has its routes.
-#[derive(Clone, Debug, Drop, PartialEq, Eq)]
+/// Where a connection manager has its routes from.
+#[derive(Drop)]
 pub enum RawManagerOne {
     /// They are a resource of their own.
     Rds(RawRds),
@@ -27,8 +29,8 @@ pub enum RawManagerOne {
     RouteConfig(RawRoutes),
 }
 
-/// An HttpConnectionManager.
-#[derive(Clone, Debug, Drop, PartialEq, Eq)]
+/// An HttpConnectionManager (gRFC A27).
+#[derive(Drop)]
 pub struct RawManager {
     /// The routes that are set, if a listed member is.
     pub one: Option<RawManagerOne>,
@@ -51,12 +53,14 @@ impl Message for RawRds {
     }
 }
 
+/// Routes that are a resource of their own.
 fn by_rds(rds: Option<RawRds>) -> Option<RawManagerOne>
     ensures { result ≡ option_map Rds rds }
 {
     rds.map(RawManagerOne::Rds)
 }
 
+/// Routes that stand in the manager.
 fn inline(route_config: Option<RawRoutes>) -> Option<RawManagerOne>
     ensures { result ≡ option_map RouteConfig route_config }
 {
@@ -71,7 +75,7 @@ impl Message for RawManager {
     #[tactic(auto, unfolding(crate::specs::Manager::manager_of))]
     fn read(alloc: Global, bytes: &[u8]) -> Result<RawManager, WireFault> {
         let list = fields(alloc, bytes)?;
-        let members = occurring(alloc, &list, &[Member::Bytes(3), Member::Bytes(4)])?;
+        let members = occurrences(alloc, &list, &[Member::Bytes(3), Member::Bytes(4)])?;
         let rds = read_member::<RawRds>(alloc, &members, 3)?;
         let route_config = read_member::<RawRoutes>(alloc, &members, 4)?;
         Ok(RawManager {

@@ -4,8 +4,8 @@ use Rattle.std.specs.Prelude.{ℕ, List, Result, Ok}
 use Rattle.proto_wire.specs.Reading.{◌>>=◌}
 use Rattle.proto_wire.specs.Values.{last_uint32, read_singular}
 use Rattle.proto_wire.specs.Wire.{fields}
-use Rattle.proto_route.specs.declared.fraction.RawFractionalPercent.{RawFractionalPercent}
-use Rattle.proto_route.specs.declared.fraction.RawRuntimeFractionalPercent.{RawRuntimeFractionalPercent}
+use Rattle.proto_route.specs.declared.fractional_percent.RawFractionalPercent.{RawFractionalPercent}
+use Rattle.proto_route.specs.declared.fractional_percent.RawRuntimeFractionalPercent.{RawRuntimeFractionalPercent}
 
 unfoldable pub fractional_percent_of : List ℕ → Result RawFractionalPercent ℕ
 fractional_percent_of bs = do

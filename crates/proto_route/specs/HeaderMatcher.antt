@@ -4,7 +4,7 @@
 use Rattle.std.specs.Prelude.{ℕ, List, [], ◌∷◌, Option, option_map, Result, Ok}
 use Rattle.proto_wire.specs.Oneof.{read_member, if_set, ◌or◌}
 use Rattle.proto_wire.specs.Reading.{◌>>=◌}
-use Rattle.proto_wire.specs.Values.{last_text, last_bool, last_int64, occurring, oneof_of}
+use Rattle.proto_wire.specs.Values.{last_text, last_bool, last_int64, occurrences, oneof_of}
 use Rattle.proto_wire.specs.Wire.{WireField, fields}
 use Rattle.proto_wire.specs.declared.field.Member.TheVariants.{Bytes, Varint}
 use Rattle.proto_route.specs.StringMatcher.{regex_matcher_of, string_matcher_of}
@@ -20,7 +20,7 @@ range_of bs = do
 
 -- the occurrences of the tests
 abbrev pub header_tests : List WireField → List WireField
-header_tests = occurring (Bytes 4 ∷ Bytes 6 ∷ Varint 7 ∷ Bytes 9 ∷ Bytes 10 ∷ Bytes 11 ∷ Bytes 12 ∷ Bytes 13 ∷ [])
+header_tests = occurrences (Bytes 4 ∷ Bytes 6 ∷ Varint 7 ∷ Bytes 9 ∷ Bytes 10 ∷ Bytes 11 ∷ Bytes 12 ∷ Bytes 13 ∷ [])
 
 -- the test that is set, if one is
 unfoldable pub header_test : List WireField → Result (Option RawHeaderMatcherOne) ℕ

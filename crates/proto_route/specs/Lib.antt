@@ -3,5 +3,5 @@ pub mod Fraction
 pub mod HeaderMatcher
 pub mod RouteAction
 pub mod RouteMatch
-pub mod Routes
+pub mod RawRouteFields
 pub mod StringMatcher

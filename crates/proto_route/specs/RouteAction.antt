@@ -4,7 +4,7 @@
 use Rattle.std.specs.Prelude.{ℕ, List, [], ◌∷◌, option_map, Result, Ok}
 use Rattle.proto_wire.specs.Oneof.{read_member, if_set, ◌or◌}
 use Rattle.proto_wire.specs.Reading.{◌>>=◌}
-use Rattle.proto_wire.specs.Values.{last_text, occurring, oneof_of, read_repeated, read_singular}
+use Rattle.proto_wire.specs.Values.{last_text, occurrences, oneof_of, read_repeated, read_singular}
 use Rattle.proto_wire.specs.Wire.{fields}
 use Rattle.proto_wire.specs.Wrappers.{uint32_value}
 use Rattle.proto_wire.specs.declared.field.Member.TheVariants.{Bytes}
@@ -29,7 +29,7 @@ weighted_cluster_of bs = do
 unfoldable pub route_action_of : List ℕ → Result RawRouteAction ℕ
 route_action_of bs = do
   fs ← fields bs
-  members ← Ok (occurring (Bytes 1 ∷ Bytes 2 ∷ Bytes 3 ∷ []) fs)
+  members ← Ok (occurrences (Bytes 1 ∷ Bytes 2 ∷ Bytes 3 ∷ []) fs)
   set ← Ok (oneof_of (1 ∷ 2 ∷ 3 ∷ []) members)
   cluster ← last_text 1 fs
   cluster_header ← last_text 2 fs

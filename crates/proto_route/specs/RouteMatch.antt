@@ -3,7 +3,7 @@
 use Rattle.std.specs.Prelude.{ℕ, List, [], ◌∷◌, option_map, Result, Ok}
 use Rattle.proto_wire.specs.Oneof.{read_member, if_set, ◌or◌}
 use Rattle.proto_wire.specs.Reading.{◌>>=◌}
-use Rattle.proto_wire.specs.Values.{last_text, repeated, occurring, oneof_of, read_repeated, read_singular}
+use Rattle.proto_wire.specs.Values.{last_text, repeated, occurrences, oneof_of, read_repeated, read_singular}
 use Rattle.proto_wire.specs.Wire.{fields}
 use Rattle.proto_wire.specs.Wrappers.{bool_value}
 use Rattle.proto_wire.specs.declared.field.Member.TheVariants.{Bytes}
@@ -16,7 +16,7 @@ use Rattle.proto_route.specs.declared.route_match.RawRouteMatchOne.TheVariants.{
 unfoldable pub route_match_of : List ℕ → Result RawRouteMatch ℕ
 route_match_of bs = do
   fs ← fields bs
-  tests ← Ok (occurring (Bytes 1 ∷ Bytes 2 ∷ Bytes 10 ∷ []) fs)
+  tests ← Ok (occurrences (Bytes 1 ∷ Bytes 2 ∷ Bytes 10 ∷ []) fs)
   set ← Ok (oneof_of (1 ∷ 2 ∷ 10 ∷ []) tests)
   prefix ← last_text 1 fs
   path ← last_text 2 fs

@@ -3,7 +3,7 @@
 use Rattle.std.specs.Prelude.{ℕ, List, [], ◌∷◌, option_map, Result, Ok}
 use Rattle.proto_wire.specs.Oneof.{read_member, if_set, ◌or◌}
 use Rattle.proto_wire.specs.Reading.{◌>>=◌}
-use Rattle.proto_wire.specs.Values.{last_text, last_bool, occurring, oneof_of}
+use Rattle.proto_wire.specs.Values.{last_text, last_bool, occurrences, oneof_of}
 use Rattle.proto_wire.specs.Wire.{fields}
 use Rattle.proto_wire.specs.declared.field.Member.TheVariants.{Bytes}
 use Rattle.proto_route.specs.declared.string_matcher.RawRegexMatcher.{RawRegexMatcher}
@@ -19,7 +19,7 @@ regex_matcher_of bs = do
 unfoldable pub string_matcher_of : List ℕ → Result RawStringMatcher ℕ
 string_matcher_of bs = do
   fs ← fields bs
-  tests ← Ok (occurring (Bytes 1 ∷ Bytes 2 ∷ Bytes 3 ∷ Bytes 5 ∷ Bytes 7 ∷ []) fs)
+  tests ← Ok (occurrences (Bytes 1 ∷ Bytes 2 ∷ Bytes 3 ∷ Bytes 5 ∷ Bytes 7 ∷ []) fs)
   set ← Ok (oneof_of (1 ∷ 2 ∷ 3 ∷ 5 ∷ 7 ∷ []) tests)
   exact ← last_text 1 fs
   prefix ← last_text 2 fs

@@ -8,42 +8,50 @@ ghost use Rattle.proto_route.specs.declared.header_matcher.RawHeaderMatcherOne.T
 
 use crate::string_matcher::{RawRegexMatcher, RawStringMatcher};
 use proto_wire::{
-    Field, Member, Message, WireFault, fields, if_set, last_bool, last_int64, last_text, occurring,
-    oneof_of, read_member,
+    Field, Member, Message, WireFault, fields, if_set, last_bool, last_int64, last_text,
+    occurrences, oneof_of, read_member,
 };
 use std::alloc::Global;
 use xc_base::{Memory, Text};
 
-/// The range of a number.
-#[derive(Clone, Copy, Debug, PartialEq, Eq)]
+/// An Int64Range: numbers from `start` up to `end`, which isn't in it.
+#[derive(Clone, Copy)]
 pub struct RawRange {
     /// The first number in the range.
     pub start: i64,
-    /// The first number behind the range.
+    /// The first number after the range.
     pub end: i64,
 }
 
 /// A test of a header's value.
-#[derive(Clone, Debug, Drop, PartialEq, Eq)]
+#[derive(Drop)]
 pub enum RawHeaderMatcherOne {
+    /// The value is this text.
     ExactMatch(Text),
+    /// The value is a decimal number in the range.
     RangeMatch(RawRange),
     /// Whether the header is there.
     PresentMatch(bool),
+    /// The value begins with this text.
     PrefixMatch(Text),
+    /// The value ends with this text.
     SuffixMatch(Text),
+    /// The pattern matches the value from its beginning to its end.
     SafeRegexMatch(RawRegexMatcher),
+    /// The value contains this text.
     ContainsMatch(Text),
+    /// The value meets this test of a text.
     StringMatch(RawStringMatcher),
 }
 
-/// A HeaderMatcher.
-#[derive(Clone, Debug, Drop, PartialEq, Eq)]
+/// A HeaderMatcher (gRFC A28).
+#[derive(Drop)]
 pub struct RawHeaderMatcher {
     /// The name of the header.
     pub name: Text,
     /// The test that is set, if one is.
     pub one: Option<RawHeaderMatcherOne>,
+    /// Whether a header that doesn't meet the test is meant.
     pub invert_match: bool,
 }
 
@@ -62,30 +70,33 @@ impl Message for RawRange {
     }
 }
 
+/// The test that a number lies in the range.
 fn range_test(range: Option<RawRange>) -> Option<RawHeaderMatcherOne>
     ensures { result ≡ option_map RangeMatch range }
 {
     range.map(RawHeaderMatcherOne::RangeMatch)
 }
 
+/// The test by the pattern.
 fn regex_test(regex: Option<RawRegexMatcher>) -> Option<RawHeaderMatcherOne>
     ensures { result ≡ option_map SafeRegexMatch regex }
 {
     regex.map(RawHeaderMatcherOne::SafeRegexMatch)
 }
 
+/// The test of the text.
 fn string_test(string: Option<RawStringMatcher>) -> Option<RawHeaderMatcherOne>
     ensures { result ≡ option_map StringMatch string }
 {
     string.map(RawHeaderMatcherOne::StringMatch)
 }
 
-// The occurrences of the tests.
-fn tests_in<'a>(alloc: Global, list: &[Field<'a>]) -> Result<Vec<Field<'a>>, Memory>
+/// The occurrences of the members that are tests.
+fn test_occurrences<'a>(alloc: Global, list: &[Field<'a>]) -> Result<Vec<Field<'a>>, Memory>
     ensures fields { IfOk result (λ v. views v.items ≡ header_tests (views list.now)) }
     ensures within { IfOk result (λ v. delimited_len (views v.items) ≤ delimited_len (views list.now)) }
 {
-    occurring(
+    occurrences(
         alloc,
         list,
         &[
@@ -101,13 +112,13 @@ fn tests_in<'a>(alloc: Global, list: &[Field<'a>]) -> Result<Vec<Field<'a>>, Mem
     )
 }
 
-// The test that is set, if one is.
+/// The test that is set, if one is.
 #[tactic(auto, unfolding(crate::specs::HeaderMatcher::header_test))]
 fn header_test(alloc: Global, list: &[Field<'_>]) -> Result<Option<RawHeaderMatcherOne>, WireFault>
     requires { delimited_len (views list.now) < 2 ^ 32 }
     ensures { Gives (λ one. one) result (header_test (views list.now)) }
 {
-    let tests = tests_in(alloc, list)?;
+    let tests = test_occurrences(alloc, list)?;
     let set = oneof_of(&tests, &[4, 6, 7, 9, 10, 11, 12, 13]);
     let exact = last_text(alloc, list, 4)?;
     let range = read_member::<RawRange>(alloc, &tests, 6)?;

@@ -3,7 +3,7 @@
 #![tactic(auto)]
 
 pub mod config_source;
-pub mod fraction;
+pub mod fractional_percent;
 pub mod header_matcher;
 pub mod route_action;
 pub mod route_match;
@@ -11,12 +11,9 @@ pub mod routes;
 pub mod string_matcher;
 
 pub use config_source::{RawConfigSource, RawConfigSourceOne};
-pub use fraction::{RawFractionalPercent, RawRuntimeFractionalPercent};
+pub use fractional_percent::{RawFractionalPercent, RawRuntimeFractionalPercent};
 pub use header_matcher::{RawHeaderMatcher, RawHeaderMatcherOne, RawRange};
 pub use route_action::{RawClusterWeight, RawRouteAction, RawRouteActionOne, RawWeightedCluster};
 pub use route_match::{RawRouteMatch, RawRouteMatchOne};
 pub use routes::{RawRoute, RawRoutes, RawVirtualHost, read_routes};
 pub use string_matcher::{RawRegexMatcher, RawStringMatcher, RawStringMatcherOne};
-
-#[cfg(test)]
-mod tests;

@@ -3,29 +3,30 @@ ghost use Rattle.std.specs.Prelude.{◌≡◌, option_map};
 ghost use Rattle.proto_route.specs.declared.route_action.RawRouteActionOne.TheVariants.{WeightedClusters};
 
 use proto_wire::{
-    Member, Message, WireFault, fields, if_set, last_text, occurring, oneof_of, read_member,
+    Member, Message, WireFault, fields, if_set, last_text, occurrences, oneof_of, read_member,
     read_repeated, read_singular,
 };
 use std::alloc::Global;
 use xc_base::{List, Text};
 
 /// A ClusterWeight.
-#[derive(Clone, Debug, Drop, PartialEq, Eq)]
+#[derive(Drop)]
 pub struct RawClusterWeight {
     /// The name of the cluster.
     pub name: Text,
-    /// None where it is absent.
+    /// Its weight among the others, none where it is absent.
     pub weight: Option<u32>,
 }
 
 /// A WeightedCluster.
-#[derive(Clone, Debug, Drop, PartialEq, Eq)]
+#[derive(Drop)]
 pub struct RawWeightedCluster {
+    /// The clusters in the order of the message.
     pub clusters: List<RawClusterWeight>,
 }
 
 /// Where calls go.
-#[derive(Clone, Debug, Drop, PartialEq, Eq)]
+#[derive(Drop)]
 pub enum RawRouteActionOne {
     /// To the cluster of this name.
     Cluster(Text),
@@ -36,7 +37,7 @@ pub enum RawRouteActionOne {
 }
 
 /// A RouteAction.
-#[derive(Clone, Debug, Drop, PartialEq, Eq)]
+#[derive(Drop)]
 pub struct RawRouteAction {
     /// Where the calls go, if a listed member is set.
     pub one: Option<RawRouteActionOne>,
@@ -69,6 +70,7 @@ impl Message for RawWeightedCluster {
     }
 }
 
+/// The choice among weighted clusters.
 fn to_weighted(clusters: Option<RawWeightedCluster>) -> Option<RawRouteActionOne>
     ensures { result ≡ option_map WeightedClusters clusters }
 {
@@ -83,7 +85,7 @@ impl Message for RawRouteAction {
     #[tactic(auto, unfolding(crate::specs::RouteAction::route_action_of))]
     fn read(alloc: Global, bytes: &[u8]) -> Result<RawRouteAction, WireFault> {
         let list = fields(alloc, bytes)?;
-        let members = occurring(
+        let members = occurrences(
             alloc,
             &list,
             &[Member::Bytes(1), Member::Bytes(2), Member::Bytes(3)],

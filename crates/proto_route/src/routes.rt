@@ -1,7 +1,7 @@
 //! A route configuration, its virtual hosts and their routes.
 ghost use Rattle.std.specs.Prelude.{◌<◌, ◌^◌, length};
 ghost use Rattle.proto_wire.specs.Reading.{Gives};
-ghost use Rattle.proto_route.specs.Routes.{routes_of};
+ghost use Rattle.proto_route.specs.RawRouteFields.{routes_of};
 
 use crate::route_action::RawRouteAction;
 use crate::route_match::RawRouteMatch;
@@ -10,7 +10,7 @@ use std::alloc::Global;
 use xc_base::{List, Text};
 
 /// A Route.
-#[derive(Clone, Debug, Drop, PartialEq, Eq)]
+#[derive(Drop)]
 pub struct RawRoute {
     /// Which calls the route is for.
     pub match_: Option<RawRouteMatch>,
@@ -18,28 +18,30 @@ pub struct RawRoute {
     pub route: Option<RawRouteAction>,
 }
 
-/// A VirtualHost.
-#[derive(Clone, Debug, Drop, PartialEq, Eq)]
+/// A VirtualHost (gRFC A27).
+#[derive(Drop)]
 pub struct RawVirtualHost {
     pub name: Text,
     /// The hosts for which it is, some by a pattern with a `*`.
     pub domains: List<Text>,
+    /// The routes in the order in which they are tried.
     pub routes: List<RawRoute>,
 }
 
-/// A RouteConfiguration.
-#[derive(Clone, Debug, Drop, PartialEq, Eq)]
+/// A RouteConfiguration (gRFC A27).
+#[derive(Drop)]
 pub struct RawRoutes {
     pub name: Text,
+    /// The virtual hosts, of which one serves a target.
     pub virtual_hosts: List<RawVirtualHost>,
 }
 
 impl Message for RawRoute {
-    ghost use Rattle.proto_route.specs.Routes.{route_of};
+    ghost use Rattle.proto_route.specs.RawRouteFields.{route_of};
 
     ghost reading = { route_of };
 
-    #[tactic(auto, unfolding(crate::specs::Routes::route_of))]
+    #[tactic(auto, unfolding(crate::specs::RawRouteFields::route_of))]
     fn read(alloc: Global, bytes: &[u8]) -> Result<RawRoute, WireFault> {
         let list = fields(alloc, bytes)?;
         let match_ = read_singular::<RawRouteMatch>(alloc, &list, 1)?;
@@ -49,11 +51,11 @@ impl Message for RawRoute {
 }
 
 impl Message for RawVirtualHost {
-    ghost use Rattle.proto_route.specs.Routes.{virtual_host_of};
+    ghost use Rattle.proto_route.specs.RawRouteFields.{virtual_host_of};
 
     ghost reading = { virtual_host_of };
 
-    #[tactic(auto, unfolding(crate::specs::Routes::virtual_host_of))]
+    #[tactic(auto, unfolding(crate::specs::RawRouteFields::virtual_host_of))]
     fn read(alloc: Global, bytes: &[u8]) -> Result<RawVirtualHost, WireFault> {
         let list = fields(alloc, bytes)?;
         let name = last_text(alloc, &list, 1)?;
@@ -68,11 +70,11 @@ impl Message for RawVirtualHost {
 }
 
 impl Message for RawRoutes {
-    ghost use Rattle.proto_route.specs.Routes.{routes_of};
+    ghost use Rattle.proto_route.specs.RawRouteFields.{routes_of};
 
     ghost reading = { routes_of };
 
-    #[tactic(auto, unfolding(crate::specs::Routes::routes_of))]
+    #[tactic(auto, unfolding(crate::specs::RawRouteFields::routes_of))]
     fn read(alloc: Global, bytes: &[u8]) -> Result<RawRoutes, WireFault> {
         let list = fields(alloc, bytes)?;
         let name = last_text(alloc, &list, 1)?;

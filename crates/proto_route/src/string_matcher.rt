@@ -3,34 +3,40 @@ ghost use Rattle.std.specs.Prelude.{◌≡◌, option_map};
 ghost use Rattle.proto_route.specs.declared.string_matcher.RawStringMatcherOne.TheVariants.{SafeRegex};
 
 use proto_wire::{
-    Member, Message, WireFault, fields, if_set, last_bool, last_text, occurring, oneof_of,
+    Member, Message, WireFault, fields, if_set, last_bool, last_text, occurrences, oneof_of,
     read_member,
 };
 use std::alloc::Global;
 use xc_base::Text;
 
 /// A RegexMatcher.
-#[derive(Clone, Debug, Drop, PartialEq, Eq)]
+#[derive(Drop)]
 pub struct RawRegexMatcher {
     /// The text of a pattern.
     pub regex: Text,
 }
 
 /// A test of a text.
-#[derive(Clone, Debug, Drop, PartialEq, Eq)]
+#[derive(Drop)]
 pub enum RawStringMatcherOne {
+    /// It is this text.
     Exact(Text),
+    /// It begins with this text.
     Prefix(Text),
+    /// It ends with this text.
     Suffix(Text),
+    /// The pattern matches it from its beginning to its end.
     SafeRegex(RawRegexMatcher),
+    /// It contains this text.
     Contains(Text),
 }
 
 /// A StringMatcher.
-#[derive(Clone, Debug, Drop, PartialEq, Eq)]
+#[derive(Drop)]
 pub struct RawStringMatcher {
     /// The test that is set, if one is.
     pub one: Option<RawStringMatcherOne>,
+    /// Whether ASCII letters are compared without regard to their case.
     pub ignore_case: bool,
 }
 
@@ -47,6 +53,7 @@ impl Message for RawRegexMatcher {
     }
 }
 
+/// The test by the pattern.
 fn regex_test(regex: Option<RawRegexMatcher>) -> Option<RawStringMatcherOne>
     ensures { result ≡ option_map SafeRegex regex }
 {
@@ -61,7 +68,7 @@ impl Message for RawStringMatcher {
     #[tactic(auto, unfolding(crate::specs::StringMatcher::string_matcher_of))]
     fn read(alloc: Global, bytes: &[u8]) -> Result<RawStringMatcher, WireFault> {
         let list = fields(alloc, bytes)?;
-        let tests = occurring(
+        let tests = occurrences(
             alloc,
             &list,
             &[

@@ -12,14 +12,14 @@ use Rattle.proto_wire.proofs.Lists.{regrouped}
 use Rattle.proto_wire.proofs.Pairs.{some_of, some_pair, let_through, neither}
 use Rattle.proto_wire.proofs.VarintSpelling.{varint-reads, varint-spelled, varint-some, SpelledVarint}
 
--- n bytes at the front, whatever is made of them
+-- n bytes at the beginning, whatever is made of them
 cut-reads : {A : Type 0} (n : ℕ) (bs rest : List ℕ) (f : List ℕ → A) → length bs ≡ n
     → cond (ltb (length (bs ++ rest)) n) None (some_of (f (take n (bs ++ rest))) (drop n (bs ++ rest))) ≡ some_of (f bs) rest
 cut-reads n bs rest f len =
     let enough : ltb (length (bs ++ rest)) n ≡ false = let e = length-append bs rest in grind (arith, nat_tests, e) in
-    let front : take n (bs ++ rest) ≡ bs = ap (λ k. take k (bs ++ rest)) (sym len) ∙ take-append_seam bs rest in
+    let prefix : take n (bs ++ rest) ≡ bs = ap (λ k. take k (bs ++ rest)) (sym len) ∙ take-append_seam bs rest in
     let after : drop n (bs ++ rest) ≡ rest = ap (λ k. drop k (bs ++ rest)) (sym len) ∙ drop-append_seam bs rest in
-    rw (enough, front, after) refl
+    rw (enough, prefix, after) refl
 
 cut-spelled : {A : Type 0} (n : ℕ) (v : A) (bs rest : List ℕ) (f : List ℕ → A) → cond (ltb (length bs) n) None (some_of (f (take n bs)) (drop n bs)) ≡ some_of v rest
     → (length (take n bs) ≡ n) × (v ≡ f (take n bs)) × (bs ≡ take n bs ++ rest)
@@ -37,12 +37,12 @@ delimited-reads b len rest h =
     ∙ cut-reads (length b) b rest (λ l. l) refl)
 
 -- what is read, with the bytes that spell it
-record PayloadFront (payload : Payload) (rest bs : List ℕ) : Type 0 where
+record PayloadPrefix (payload : Payload) (rest bs : List ℕ) : Type 0 where
   body : List ℕ
-  whole : bs ≡ body ++ rest
+  split : bs ≡ body ++ rest
   spelled : SpellsPayload payload body
 
-delimited-spelled : (b bs rest : List ℕ) → delimited_at bs ≡ Some (b, rest) → PayloadFront (bytes b) rest bs
+delimited-spelled : (b bs rest : List ℕ) → delimited_at bs ≡ Some (b, rest) → PayloadPrefix (bytes b) rest bs
 unfolding delimited_at
 delimited-spelled b bs rest e =
     option_and_then_some (λ (n : ℕ × List ℕ). cond (ltb (length n.1) n.0) None (Some (take n.0 n.1, drop n.0 n.1))) (varint_at bs) (b, rest) e
@@ -51,9 +51,9 @@ delimited-spelled b bs rest e =
     let parts = cut-spelled n.0 b n.1 rest (λ l. l) e' in
     let same : length b ≡ n.0 = ap length parts.1 ∙ parts.0 in
     record {
-      body = len.front ++ b;
-      whole = regrouped len.front b rest n.1 bs len.whole (parts.2 ∙ ap (λ (l : List ℕ). l ++ rest) (sym parts.1));
-      spelled = (len.front, subst (λ k. SpellsVarint k len.front) (sym same) len.spelled, refl);
+      body = len.prefix ++ b;
+      split = regrouped len.prefix b rest n.1 bs len.split (parts.2 ∙ ap (λ (l : List ℕ). l ++ rest) (sym parts.1));
+      spelled = (len.prefix, subst (λ k. SpellsVarint k len.prefix) (sym same) len.spelled, refl);
     })
 
 -- the payload of a value, with the bytes after it
@@ -76,31 +76,31 @@ mapped f None p rest e = cc
 mapped f (Some r) p rest e = let parts = some_pair (f r.0) p r.1 rest e in (r.0, ap (λ s. Some (r.0, s)) parts.1, parts.0)
 
 record PayloadOf (t : ℕ) (p : Payload) (rest bs : List ℕ) : Type 0 where
-  front : PayloadFront p rest bs
+  prefix : PayloadPrefix p rest bs
   typed : wire_type p ≡ t
 
 of_varint : (t : ℕ) (bs : List ℕ) (p : Payload) (rest : List ℕ) → t ≡ 0 → option_map (with_payload (λ v. varint v)) (varint_at bs) ≡ some_of p rest → PayloadOf t p rest bs
 of_varint t bs p rest is e =
     let m = mapped (λ v. varint v) (varint_at bs) p rest e in
     let f : SpelledVarint m.0 rest bs = varint-spelled m.0 bs rest m.1 in
-    subst (λ q. PayloadOf t q rest bs) m.2 (record { front = record { body = f.front; whole = f.whole; spelled = f.spelled }; typed = sym is })
+    subst (λ q. PayloadOf t q rest bs) m.2 (record { prefix = record { body = f.prefix; split = f.split; spelled = f.spelled }; typed = sym is })
 
 of_eight : (t : ℕ) (bs : List ℕ) (p : Payload) (rest : List ℕ) → t ≡ 1 → option_map (with_payload (λ v. eight v)) (fixed_at w64 bs) ≡ some_of p rest → PayloadOf t p rest bs
 of_eight t bs p rest is e =
     let m = mapped (λ v. eight v) (fixed_at w64 bs) p rest e in
     let c = cut-spelled 8 m.0 bs rest (from_le_bytes w64) m.1 in
-    subst (λ q. PayloadOf t q rest bs) m.2 (record { front = record { body = take 8 bs; whole = c.2; spelled = (c.0, c.1) }; typed = sym is })
+    subst (λ q. PayloadOf t q rest bs) m.2 (record { prefix = record { body = take 8 bs; split = c.2; spelled = (c.0, c.1) }; typed = sym is })
 
 of_bytes : (t : ℕ) (bs : List ℕ) (p : Payload) (rest : List ℕ) → t ≡ 2 → option_map (with_payload (λ v. bytes v)) (delimited_at bs) ≡ some_of p rest → PayloadOf t p rest bs
 of_bytes t bs p rest is e =
     let m = mapped (λ b. bytes b) (delimited_at bs) p rest e in
-    subst (λ q. PayloadOf t q rest bs) m.2 (record { front = delimited-spelled m.0 bs rest m.1; typed = sym is })
+    subst (λ q. PayloadOf t q rest bs) m.2 (record { prefix = delimited-spelled m.0 bs rest m.1; typed = sym is })
 
 of_four : (t : ℕ) (bs : List ℕ) (p : Payload) (rest : List ℕ) → t ≡ 5 → option_map (with_payload (λ v. four v)) (fixed_at w32 bs) ≡ some_of p rest → PayloadOf t p rest bs
 of_four t bs p rest is e =
     let m = mapped (λ v. four v) (fixed_at w32 bs) p rest e in
     let c = cut-spelled 4 m.0 bs rest (from_le_bytes w32) m.1 in
-    subst (λ q. PayloadOf t q rest bs) m.2 (record { front = record { body = take 4 bs; whole = c.2; spelled = (c.0, c.1) }; typed = sym is })
+    subst (λ q. PayloadOf t q rest bs) m.2 (record { prefix = record { body = take 4 bs; split = c.2; spelled = (c.0, c.1) }; typed = sym is })
 
 is_type : (t n : ℕ) → eqb t n ≡ true → t ≡ n
 is_type t n e = grind (arith, nat_tests)
@@ -144,7 +144,7 @@ field-reads number p first rest f =
     let tag = 8 * number + wire_type p in
     let type_is : tag % 8 ≡ wire_type p = omega arith in
     let number_is : tag / 8 ≡ number = omega arith in
-    ap (λ (l : List ℕ). field_at (l ++ rest)) f.whole
+    ap (λ (l : List ℕ). field_at (l ++ rest)) f.split
     ∙ (ap (λ (l : List ℕ). field_at l) (append_assoc f.tag f.body rest)
     ∙ (ap (option_and_then (λ (t : ℕ × List ℕ). behind t.0 (payload_at (t.0 % 8) t.1))) (varint-reads tag f.tag (f.body ++ rest) f.tagged)
     ∙ (ap (λ k. behind tag (payload_at k (f.body ++ rest))) type_is
@@ -152,33 +152,33 @@ field-reads number p first rest f =
     ∙ behind-reads tag number p rest number_is f.least f.most))))
 
 -- a field that is read, with the bytes that spell it
-pub record FieldFront (number : ℕ) (p : Payload) (rest bs : List ℕ) : Type 0 where
+pub record FieldPrefix (number : ℕ) (p : Payload) (rest bs : List ℕ) : Type 0 where
   pub first : List ℕ
-  pub whole : bs ≡ first ++ rest
+  pub split : bs ≡ first ++ rest
   pub spelled : SpellsField number p first
 
 tagged : (tag : ℕ) (after : List ℕ) (p : Payload) (rest bs : List ℕ) → SpelledVarint tag after bs → PayloadOf (tag % 8) p rest after
-    → 0 < tag / 8 → tag / 8 ≤ 536870911 → FieldFront (tag / 8) p rest bs
+    → 0 < tag / 8 → tag / 8 ≤ 536870911 → FieldPrefix (tag / 8) p rest bs
 tagged tag after p rest bs t b some most =
     let is : tag ≡ 8 * (tag / 8) + wire_type p = omega (arith, b.typed) in
     record {
-      first = t.front ++ b.front.body;
-      whole = regrouped t.front b.front.body rest after bs t.whole b.front.whole;
+      first = t.prefix ++ b.prefix.body;
+      split = regrouped t.prefix b.prefix.body rest after bs t.split b.prefix.split;
       spelled = record {
         least = some;
         most = most;
-        tag = t.front;
-        body = b.front.body;
-        whole = refl;
-        tagged = subst (λ k. SpellsVarint k t.front) is t.spelled;
-        behind = b.front.spelled;
+        tag = t.prefix;
+        body = b.prefix.body;
+        split = refl;
+        tagged = subst (λ k. SpellsVarint k t.prefix) is t.spelled;
+        behind = b.prefix.spelled;
       };
     }
 
-moved : (x y : (ℕ × Payload) × List ℕ) (bs : List ℕ) → x ≡ y → FieldFront x.0.0 x.0.1 x.1 bs → FieldFront y.0.0 y.0.1 y.1 bs
-moved x y bs e h = subst (λ z. FieldFront z.0.0 z.0.1 z.1 bs) e h
+moved : (x y : (ℕ × Payload) × List ℕ) (bs : List ℕ) → x ≡ y → FieldPrefix x.0.0 x.0.1 x.1 bs → FieldPrefix y.0.0 y.0.1 y.1 bs
+moved x y bs e h = subst (λ z. FieldPrefix z.0.0 z.0.1 z.1 bs) e h
 
-pub field-spelled : (number : ℕ) (p : Payload) (bs rest : List ℕ) → field_at bs ≡ Some ((number, p), rest) → FieldFront number p rest bs
+pub field-spelled : (number : ℕ) (p : Payload) (bs rest : List ℕ) → field_at bs ≡ Some ((number, p), rest) → FieldPrefix number p rest bs
 unfolding field_at
 field-spelled number p bs rest e =
     option_and_then_some (λ (t : ℕ × List ℕ). behind t.0 (payload_at (t.0 % 8) t.1)) (varint_at bs) ((number, p), rest) e
@@ -195,4 +195,4 @@ field-spelled number p bs rest e =
 pub field-some : (number : ℕ) (p : Payload) (first : List ℕ) → SpellsField number p first → 0 < length first
 field-some number p first f =
     let tag = varint-some (8 * number + wire_type p) f.tag f.tagged in
-    let len = ap length f.whole ∙ length-append f.tag f.body in omega arith
+    let len = ap length f.split ∙ length-append f.tag f.body in omega arith

@@ -44,7 +44,7 @@ chosen : (t : Bool) (o : Option (List ℕ)) (b : List ℕ) → cond t o None ≡
 chosen true o b e = e
 chosen false o b e = cc
 
-bytes_at-within : (number : ℕ) (f : WireField) (b : List ℕ) → bytes_at number f ≡ Some b → length b ≤ payload_len f.payload
+pub bytes_at-within : (number : ℕ) (f : WireField) (b : List ℕ) → bytes_at number f ≡ Some b → length b ≤ payload_len f.payload
 bytes_at-within number f b e = held f.payload b (chosen (eqb f.number number) (bytes_of f.payload) b e)
 
 -- the bytes of one of the fields
@@ -57,7 +57,7 @@ one_more : (o : Option (List ℕ)) (bs : List (List ℕ)) (n m : ℕ) → ((b : 
 one_more None bs n m h g = omega arith
 one_more (Some b) bs n m h g = let k = h b refl in rw length-append (omega arith)
 
-all-within : (number : ℕ) (fs : List WireField) → length (concat (repeated number fs)) ≤ delimited_len fs
+pub all-within : (number : ℕ) (fs : List WireField) → length (concat (repeated number fs)) ≤ delimited_len fs
 unfolding repeated
 all-within number [] = omega arith
 all-within number (f ∷ fs) =

@@ -11,3 +11,4 @@ pub mod VarintSpelling
 pub mod FieldSpelling
 pub mod ListSpelling
 pub mod WrittenSpelling
+pub mod WithinLemmas

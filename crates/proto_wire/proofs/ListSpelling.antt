@@ -3,9 +3,9 @@ use Rattle.std.proofs.Common.{◌≡◌, ◌≤◌, ℕ, zero, suc, ◌+◌, ◌
 use Rattle.std.specs.Prelude.{MatchResult}
 use Rattle.std.proofs.lemmas.List.{length-append}
 use Rattle.proto_wire.specs.Spells.{SpellFrom, Spell, IsAfterLongest, ReadingIsTheSpelling}
-use Rattle.proto_wire.specs.Wire.{Payload, WireField, with_front, before_others, field_at, fields_within, fields}
-use Rattle.proto_wire.proofs.FieldLemmas.{field_more, with_front-none}
-use Rattle.proto_wire.proofs.FieldSpelling.{field-reads, field-spelled, field-some, FieldFront}
+use Rattle.proto_wire.specs.Wire.{Payload, WireField, with_prefix, before_others, field_at, fields_within, fields}
+use Rattle.proto_wire.proofs.FieldLemmas.{field_more, with_prefix-none}
+use Rattle.proto_wire.proofs.FieldSpelling.{field-reads, field-spelled, field-some, FieldPrefix}
 use Rattle.proto_wire.proofs.Lists.{regrouped}
 use Rattle.proto_wire.proofs.Pairs.{some_pair}
 
@@ -16,26 +16,26 @@ placed f at e = ap (λ (k : ℕ). record f { at = k }) (sym e)
 pub fields-read : (n at : ℕ) (gs : List WireField) (bs : List ℕ) → SpellFrom at gs bs → length bs ≤ n → fields_within n at bs ≡ Ok gs
 unfolding fields_within
 fields-read n at [] bs h le = ap (fields_within n at) h
-fields-read n at (g ∷ gs) bs (first, rest, whole, place, field, others) le =
+fields-read n at (g ∷ gs) bs (first, rest, split, place, field, others) le =
     let some = field-some g.number g.payload first field in
-    let len : length bs ≡ length first + length rest = ap length whole ∙ length-append first rest in
-    let is : field_at bs ≡ Some ((g.number, g.payload), rest) = ap field_at whole ∙ field-reads g.number g.payload first rest field in
-    let next : with_front [] (fields_within n at bs) ≡ with_front (record { at = at; number = g.number; payload = g.payload } ∷ []) (fields_within (n - 1) (at + length first) rest) =
+    let len : length bs ≡ length first + length rest = ap length split ∙ length-append first rest in
+    let is : field_at bs ≡ Some ((g.number, g.payload), rest) = ap field_at split ∙ field-reads g.number g.payload first rest field in
+    let next : with_prefix [] (fields_within n at bs) ≡ with_prefix (record { at = at; number = g.number; payload = g.payload } ∷ []) (fields_within (n - 1) (at + length first) rest) =
     field_more [] n (n - 1) at (at + length first) g.number g.payload bs rest (omega arith) (omega arith) (omega arith) (sym is) in
     let ih = fields-read (n - 1) (at + length first) gs rest others (omega arith) in
-    sym (with_front-none (fields_within n at bs))
+    sym (with_prefix-none (fields_within n at bs))
     ∙ (next
-    ∙ (ap (with_front (record { at = at; number = g.number; payload = g.payload } ∷ [])) ih
+    ∙ (ap (with_prefix (record { at = at; number = g.number; payload = g.payload } ∷ [])) ih
     ∙ ap (λ (f : WireField). Ok (f ∷ gs)) (placed g at place)))
 
 -- what is read spells the bytes
-front_ok : (f : WireField) (r : Result (List WireField) ℕ) (fs : List WireField) → with_front (f ∷ []) r ≡ Ok fs → (gs : List WireField) × (r ≡ Ok gs) × (fs ≡ f ∷ gs)
-front_ok f (Ok gs) fs e = (gs, refl, sym (let same : f ∷ gs ≡ fs = cc in same))
-front_ok f (Err at) fs e = cc
+prefix_ok : (f : WireField) (r : Result (List WireField) ℕ) (fs : List WireField) → with_prefix (f ∷ []) r ≡ Ok fs → (gs : List WireField) × (r ≡ Ok gs) × (fs ≡ f ∷ gs)
+prefix_ok f (Ok gs) fs e = (gs, refl, sym (let same : f ∷ gs ≡ fs = cc in same))
+prefix_ok f (Err at) fs e = cc
 
-front_err : (f : WireField) (r : Result (List WireField) ℕ) (p : ℕ) → with_front (f ∷ []) r ≡ Err p → r ≡ Err p
-front_err f (Ok gs) p e = cc
-front_err f (Err at) p e = e
+prefix_err : (f : WireField) (r : Result (List WireField) ℕ) (p : ℕ) → with_prefix (f ∷ []) r ≡ Err p → r ≡ Err p
+prefix_err f (Ok gs) p e = cc
+prefix_err f (Err at) p e = e
 
 abbrev field_of : ℕ → (ℕ × Payload) × List ℕ → WireField
 field_of at x = record { at = at; number = x.0.0; payload = x.0.1 }
@@ -49,13 +49,13 @@ spelled_more : (n at : ℕ) (bs : List ℕ) (o : Option ((ℕ × Payload) × Lis
     → ((a : ℕ) (r : List ℕ) (gs : List WireField) → length r ≤ n → fields_within n a r ≡ Ok gs → SpellFrom a gs r) → SpellFrom at fs bs
 spelled_more n at bs None fs is le e ih = cc
 spelled_more n at bs (Some x) fs is le e ih =
-    let field : FieldFront x.0.0 x.0.1 x.1 bs = field-spelled x.0.0 x.0.1 bs x.1 is in
+    let field : FieldPrefix x.0.0 x.0.1 x.1 bs = field-spelled x.0.0 x.0.1 bs x.1 is in
     let some = field-some x.0.0 x.0.1 field.first field.spelled in
-    let len = ap length field.whole ∙ length-append field.first x.1 in
-    let place = after_first at bs field.first x.1 field.whole in
-    let o = front_ok (field_of at x) (fields_within n (at + (length bs - length x.1)) x.1) fs e in
+    let len = ap length field.split ∙ length-append field.first x.1 in
+    let place = after_first at bs field.first x.1 field.split in
+    let o = prefix_ok (field_of at x) (fields_within n (at + (length bs - length x.1)) x.1) fs e in
     let others : SpellFrom (at + length field.first) o.0 x.1 = subst (λ k. SpellFrom k o.0 x.1) place (ih (at + (length bs - length x.1)) x.1 o.0 (omega arith) o.1) in
-    subst (λ (l : List WireField). SpellFrom at l bs) (sym o.2) (field.first, x.1, field.whole, refl, field.spelled, others)
+    subst (λ (l : List WireField). SpellFrom at l bs) (sym o.2) (field.first, x.1, field.split, refl, field.spelled, others)
 
 pub fields-spelled : (n at : ℕ) (bs : List ℕ) (fs : List WireField) → length bs ≤ n → fields_within n at bs ≡ Ok fs → SpellFrom at fs bs
 unfolding fields_within
@@ -67,18 +67,18 @@ fields-spelled (suc n) at (b ∷ bs) fs le e =
 -- where nothing is read: the longest list that the bytes begin with
 record Stuck (at p : ℕ) (bs : List ℕ) : Type 0 where
   fs : List WireField
-  front : List ℕ
+  prefix : List ℕ
   rest : List ℕ
-  whole : bs ≡ front ++ rest
-  spelled : SpellFrom at fs front
-  place : at + length front ≡ p
+  split : bs ≡ prefix ++ rest
+  spelled : SpellFrom at fs prefix
+  place : at + length prefix ≡ p
   most : (gs : List WireField) (other after : List ℕ) → bs ≡ other ++ after → SpellFrom at gs other → length gs ≤ length fs
 
 -- a list of fields that the bytes begin with begins with the field that is read
 begins : (at : ℕ) (g : WireField) (gs : List WireField) (bs other after : List ℕ) → bs ≡ other ++ after → SpellFrom at (g ∷ gs) other
     → (others : List ℕ) × (field_at bs ≡ Some ((g.number, g.payload), others ++ after)) × SpellFrom (at + (length bs - length (others ++ after))) gs others
-begins at g gs bs other after e (first, rest, whole, place, field, others) =
-    let all : bs ≡ first ++ (rest ++ after) = e ∙ (ap (λ (l : List ℕ). l ++ after) whole ∙ append_assoc first rest after) in (
+begins at g gs bs other after e (first, rest, split, place, field, others) =
+    let all : bs ≡ first ++ (rest ++ after) = e ∙ (ap (λ (l : List ℕ). l ++ after) split ∙ append_assoc first rest after) in (
       rest,
       ap field_at all ∙ field-reads g.number g.payload first (rest ++ after) field,
       subst (λ k. SpellFrom k gs rest) (sym (after_first at bs first (rest ++ after) all)) others,
@@ -103,20 +103,20 @@ stuck_more : (n at p : ℕ) (bs : List ℕ) (o : Option ((ℕ × Payload) × Lis
     → ((a : ℕ) (r : List ℕ) → length r ≤ n → fields_within n a r ≡ Err p → Stuck a p r) → Stuck at p bs
 stuck_more n at p bs None is le e ih =
     let same : at ≡ p = cc in
-    record { fs = []; front = []; rest = bs; whole = refl; spelled = refl; place = omega arith; most = none_longer at bs is }
+    record { fs = []; prefix = []; rest = bs; split = refl; spelled = refl; place = omega arith; most = none_longer at bs is }
 stuck_more n at p bs (Some x) is le e ih =
-    let field : FieldFront x.0.0 x.0.1 x.1 bs = field-spelled x.0.0 x.0.1 bs x.1 is in
+    let field : FieldPrefix x.0.0 x.0.1 x.1 bs = field-spelled x.0.0 x.0.1 bs x.1 is in
     let some = field-some x.0.0 x.0.1 field.first field.spelled in
-    let len = ap length field.whole ∙ length-append field.first x.1 in
-    let place = after_first at bs field.first x.1 field.whole in
-    let inner : Stuck (at + (length bs - length x.1)) p x.1 = ih (at + (length bs - length x.1)) x.1 (omega arith) (front_err (field_of at x) (fields_within n (at + (length bs - length x.1)) x.1) p e) in
-    let more = length-append field.first inner.front in
+    let len = ap length field.split ∙ length-append field.first x.1 in
+    let place = after_first at bs field.first x.1 field.split in
+    let inner : Stuck (at + (length bs - length x.1)) p x.1 = ih (at + (length bs - length x.1)) x.1 (omega arith) (prefix_err (field_of at x) (fields_within n (at + (length bs - length x.1)) x.1) p e) in
+    let more = length-append field.first inner.prefix in
     record {
       fs = field_of at x ∷ inner.fs;
-      front = field.first ++ inner.front;
+      prefix = field.first ++ inner.prefix;
       rest = inner.rest;
-      whole = regrouped field.first inner.front inner.rest x.1 bs field.whole inner.whole;
-      spelled = (field.first, inner.front, refl, refl, field.spelled, subst (λ k. SpellFrom k inner.fs inner.front) place inner.spelled);
+      split = regrouped field.first inner.prefix inner.rest x.1 bs field.split inner.split;
+      spelled = (field.first, inner.prefix, refl, refl, field.spelled, subst (λ k. SpellFrom k inner.fs inner.prefix) place inner.spelled);
       place = omega (arith, inner.place);
       most = λ gs other after e' h. let le' = one_longer at (length inner.fs) bs x is inner.most gs other after e' h in omega arith;
     }
@@ -132,7 +132,7 @@ all_read : (bs : List ℕ) (gs : List WireField) → Spell gs bs → fields bs �
 unfolding fields
 all_read bs gs h = fields-read (length bs) 0 gs bs h (omega arith)
 
-all_spelled : (bs : List ℕ) (fs : List WireField) → fields bs ≡ Ok fs → Spell fs bs
+pub all_spelled : (bs : List ℕ) (fs : List WireField) → fields bs ≡ Ok fs → Spell fs bs
 unfolding fields
 all_spelled bs fs e = fields-spelled (length bs) 0 bs fs (omega arith) e
 
@@ -149,8 +149,8 @@ no_list bs at gs e h = let same : fields bs ≡ Ok gs = all_read bs gs h in cc
 after_longest : (bs : List ℕ) (at : ℕ) → Stuck 0 at bs → IsAfterLongest at bs
 after_longest bs at s = (
   s.fs,
-  record { front = s.front; rest = s.rest; whole = s.whole; spelled = s.spelled; len = omega (arith, s.place) },
-  λ gs n f. s.most gs f.front f.rest f.whole f.spelled,
+  record { prefix = s.prefix; rest = s.rest; split = s.split; spelled = s.spelled; len = omega (arith, s.place) },
+  λ gs n f. s.most gs f.prefix f.rest f.split f.spelled,
 )
 
 by_reading : (bs : List ℕ) (r : Result (List WireField) ℕ) → fields bs ≡ r

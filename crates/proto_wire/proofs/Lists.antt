@@ -6,6 +6,6 @@ use Rattle.std.proofs.lemmas.List.{drop_more}
 pub map_drop_more : {X Y : Type 0} (v : X → Y) (xs : List X) (i : ℕ) (d : X) → i < length xs → map v (drop i xs) ≡ v (get_or xs i d) ∷ map v (drop (i + 1) xs)
 map_drop_more v xs i d lt = ap (map v) (drop_more xs i d lt)
 
--- a front of what stands behind a front
-pub regrouped : (first front rest after bs : List ℕ) → bs ≡ first ++ after → after ≡ front ++ rest → bs ≡ (first ++ front) ++ rest
-regrouped first front rest after bs e is = e ∙ (ap (λ (l : List ℕ). first ++ l) is ∙ sym (append_assoc first front rest))
+-- a prefix of what stands behind a prefix
+pub regrouped : (first prefix rest after bs : List ℕ) → bs ≡ first ++ after → after ≡ prefix ++ rest → bs ≡ (first ++ prefix) ++ rest
+regrouped first prefix rest after bs e is = e ∙ (ap (λ (l : List ℕ). first ++ l) is ∙ sym (append_assoc first prefix rest))

@@ -10,38 +10,38 @@ use Rattle.proto_wire.specs.declared.field.Body.TheVariants.{Varint}
 use Rattle.proto_wire.specs.declared.field.Member.{Member}
 use Rattle.proto_wire.specs.View.{view, views}
 use Rattle.proto_wire.specs.Wire.{WireField}
-use Rattle.proto_wire.specs.Values.{occurring, is_of, last_run, delimited_len}
+use Rattle.proto_wire.specs.Values.{occurrences, is_of, last_run, delimited_len}
 use Rattle.proto_wire.proofs.Lists.{map_drop_more}
 use Rattle.proto_wire.proofs.LenLemmas.{delimited_len-filter}
 
 tested : (f : WireField) (fs : List WireField) (t b : Bool) → t ≡ b → cond t (f ∷ fs) fs ≡ cond b (f ∷ fs) fs
 tested f fs t b e = ap (λ (c : Bool). cond c (f ∷ fs) fs) e
 
-occurring-more : (members : List Member) (fs : List Field) (i : ℕ) (d : Field) (b : Bool) → i < length fs → b ≡ list_any (is_of (view (get_or fs i d))) members
-    → occurring members (views (drop i fs)) ≡ cond b (view (get_or fs i d) ∷ occurring members (views (drop (i + 1) fs))) (occurring members (views (drop (i + 1) fs)))
-unfolding occurring
-occurring-more members fs i d b lt e =
+occurrences-more : (members : List Member) (fs : List Field) (i : ℕ) (d : Field) (b : Bool) → i < length fs → b ≡ list_any (is_of (view (get_or fs i d))) members
+    → occurrences members (views (drop i fs)) ≡ cond b (view (get_or fs i d) ∷ occurrences members (views (drop (i + 1) fs))) (occurrences members (views (drop (i + 1) fs)))
+unfolding occurrences
+occurrences-more members fs i d b lt e =
     ap (λ (l : List WireField). filter (λ f. list_any (is_of f) members) l) (map_drop_more view fs i d lt)
     ∙ tested (view (get_or fs i d)) (filter (λ f. list_any (is_of f) members) (views (drop (i + 1) fs))) _ _ (sym e)
 
 -- a field that is an occurrence goes to the end of those so far
-pub occurring-yes : (members : List Member) (front next : List Field) (fs : List Field) (i : ℕ) (d : Field) → i < length fs → true ≡ list_any (is_of (view (get_or fs i d))) members
-    → next ≡ front ++ get_or fs i d ∷ [] → views next ++ occurring members (views (drop (i + 1) fs)) ≡ views front ++ occurring members (views (drop i fs))
-occurring-yes members front next fs i d lt e is =
-    ap (λ (l : List Field). views l ++ occurring members (views (drop (i + 1) fs))) is
-    ∙ (ap (λ (l : List WireField). l ++ occurring members (views (drop (i + 1) fs))) (map-append view front (get_or fs i d ∷ []))
-    ∙ (append_assoc (views front) (view (get_or fs i d) ∷ []) (occurring members (views (drop (i + 1) fs)))
-    ∙ ap (λ (l : List WireField). views front ++ l) (sym (occurring-more members fs i d true lt e))))
+pub occurrences-yes : (members : List Member) (prefix next : List Field) (fs : List Field) (i : ℕ) (d : Field) → i < length fs → true ≡ list_any (is_of (view (get_or fs i d))) members
+    → next ≡ prefix ++ get_or fs i d ∷ [] → views next ++ occurrences members (views (drop (i + 1) fs)) ≡ views prefix ++ occurrences members (views (drop i fs))
+occurrences-yes members prefix next fs i d lt e is =
+    ap (λ (l : List Field). views l ++ occurrences members (views (drop (i + 1) fs))) is
+    ∙ (ap (λ (l : List WireField). l ++ occurrences members (views (drop (i + 1) fs))) (map-append view prefix (get_or fs i d ∷ []))
+    ∙ (append_assoc (views prefix) (view (get_or fs i d) ∷ []) (occurrences members (views (drop (i + 1) fs)))
+    ∙ ap (λ (l : List WireField). views prefix ++ l) (sym (occurrences-more members fs i d true lt e))))
 
-pub occurring-no : (members : List Member) (front : List Field) (fs : List Field) (i : ℕ) (d : Field) → i < length fs → false ≡ list_any (is_of (view (get_or fs i d))) members
-    → views front ++ occurring members (views (drop (i + 1) fs)) ≡ views front ++ occurring members (views (drop i fs))
-occurring-no members front fs i d lt e = ap (λ (l : List WireField). views front ++ l) (sym (occurring-more members fs i d false lt e))
+pub occurrences-no : (members : List Member) (prefix : List Field) (fs : List Field) (i : ℕ) (d : Field) → i < length fs → false ≡ list_any (is_of (view (get_or fs i d))) members
+    → views prefix ++ occurrences members (views (drop (i + 1) fs)) ≡ views prefix ++ occurrences members (views (drop i fs))
+occurrences-no members prefix fs i d lt e = ap (λ (l : List WireField). views prefix ++ l) (sym (occurrences-more members fs i d false lt e))
 
 -- all occurrences were found
-pub occurring-within : (members : List Member) (all fs : List Field) (i : ℕ) → length fs ≤ i → views all ++ occurring members (views (drop i fs)) ≡ occurring members (views fs)
+pub occurrences-within : (members : List Member) (all fs : List Field) (i : ℕ) → length fs ≤ i → views all ++ occurrences members (views (drop i fs)) ≡ occurrences members (views fs)
     → delimited_len (views all) ≤ delimited_len (views fs)
-unfolding occurring
-occurring-within members all fs i le e =
+unfolding occurrences
+occurrences-within members all fs i le e =
     let same : views all ≡ filter (λ f. list_any (is_of f) members) (views fs) = rw (drop_all i fs le, append-nil) at e in
     rw same (delimited_len-filter (λ f. list_any (is_of f) members) (views fs))
 

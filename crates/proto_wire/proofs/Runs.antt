@@ -23,7 +23,7 @@ joined_after-none (b ∷ bs) = after_some b bs
 
 -- the values so far, with what is left to give
 abbrev pub gathered_after : {A : Type 0} → List A → Result (List A) ℕ → Result (List A) ℕ
-gathered_after front rest = rest >>= λ xs. Ok (front ++ xs)
+gathered_after prefix rest = rest >>= λ xs. Ok (prefix ++ xs)
 
 -- a last value that is the default may be none
 pub last_or-default : {A : Type 0} (d : A) (xs : List A) → unwrap_or (last_or (Some d) xs) d ≡ unwrap_or (last_or None xs) d

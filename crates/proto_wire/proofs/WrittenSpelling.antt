@@ -55,7 +55,7 @@ writing_is_a_spelling number some most = (
     most = most;
     tag = spelled_varint (8 * number);
     body = spelled_varint v;
-    whole = refl;
+    split = refl;
     tagged = subst (λ k. SpellsVarint k (spelled_varint (8 * number))) (tag_of number) (varint-written (8 * number) (omega arith));
     behind = varint-written v lt;
   },
@@ -64,7 +64,7 @@ writing_is_a_spelling number some most = (
     most = most;
     tag = spelled_varint (8 * number + 2);
     body = spelled_varint (length b) ++ b;
-    whole = append_assoc (spelled_varint (8 * number + 2)) (spelled_varint (length b)) b;
+    split = append_assoc (spelled_varint (8 * number + 2)) (spelled_varint (length b)) b;
     tagged = varint-written (8 * number + 2) (omega arith);
     behind = (spelled_varint (length b), varint-written (length b) lt, refl);
   },

@@ -1,4 +1,4 @@
--- How a list of fields spells a whole string of bytes, said without reading it (protobuf.dev, "Encoding": Base
+-- How a list of fields spells a string of bytes from its beginning to its end, said without reading it (protobuf.dev, "Encoding": Base
 -- 128 Varints, Message Structure, Length-Delimited Records).
 use Rattle.std.specs.Prelude.{◌≡◌, ℕ, ◌+◌, ◌-◌, ◌*◌, ◌^◌, ◌<◌, ◌≤◌, List, [], ◌∷◌, ◌++◌, length, MatchResult}
 use Rattle.std.specs.List.{AllByRecursion}
@@ -37,7 +37,7 @@ pub record SpellsField (number : ℕ) (payload : Payload) (bs : List ℕ) : Type
   pub most : number ≤ 536870911
   pub tag : List ℕ
   pub body : List ℕ
-  pub whole : bs ≡ tag ++ body
+  pub split : bs ≡ tag ++ body
   pub tagged : SpellsVarint (8 * number + wire_type payload) tag
   pub behind : SpellsPayload payload body
 
@@ -50,17 +50,17 @@ SpellFrom at (f ∷ fs) bs =
 abbrev pub Spell : List WireField → List ℕ → Type 0
 Spell fs bs = SpellFrom 0 fs bs
 
--- the fields spell a front of the bytes, of this length
-pub record SpellFront (fs : List WireField) (n : ℕ) (bs : List ℕ) : Type 0 where
-  pub front : List ℕ
+-- the fields spell a prefix of the bytes, of this length
+pub record SpellPrefix (fs : List WireField) (n : ℕ) (bs : List ℕ) : Type 0 where
+  pub prefix : List ℕ
   pub rest : List ℕ
-  pub whole : bs ≡ front ++ rest
-  pub spelled : Spell fs front
-  pub len : length front ≡ n
+  pub split : bs ≡ prefix ++ rest
+  pub spelled : Spell fs prefix
+  pub len : length prefix ≡ n
 
 -- at is the place after the longest list of fields that the bytes begin with
 abbrev pub IsAfterLongest : ℕ → List ℕ → Type 0
-IsAfterLongest at bs = (fs : List WireField) × SpellFront fs at bs × ((gs : List WireField) (n : ℕ) → SpellFront gs n bs → length gs ≤ length fs)
+IsAfterLongest at bs = (fs : List WireField) × SpellPrefix fs at bs × ((gs : List WireField) (n : ℕ) → SpellPrefix gs n bs → length gs ≤ length fs)
 
 -- What is read is the one list of fields that spells the bytes. Where nothing can be read no list spells them,
 -- and the place is that after the longest list that they begin with.

@@ -113,8 +113,8 @@ is_of f (member.Varint number) = (f.number == number) && is_varint f.payload
 is_of f (member.Bytes number) = (f.number == number) && is_bytes f.payload
 
 -- the fields that are occurrences of the members of a oneof
-unfoldable pub occurring : List Member → List WireField → List WireField
-occurring members fs = filter (λ f. list_any (is_of f) members) fs
+unfoldable pub occurrences : List Member → List WireField → List WireField
+occurrences members fs = filter (λ f. list_any (is_of f) members) fs
 
 -- the fields after the last one of another number
 unfoldable pub last_run : ℕ → List WireField → List WireField

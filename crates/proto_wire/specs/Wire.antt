@@ -28,7 +28,7 @@ varint_within n [] = None
 varint_within zero (b ∷ bs) = None
 varint_within (suc n) (b ∷ bs) = if nat_lt b 128 then Some (b, bs) else onto_low b (varint_within n bs)
 
--- the varint at the front, and the bytes after it
+-- the varint at the beginning, and the bytes after it
 unfoldable pub varint_at : List ℕ → Option (ℕ × List ℕ)
 varint_at bs = varint_within 10 bs
 
@@ -58,7 +58,7 @@ payload_at wire_type bs =
     else if wire_type == 5 then option_map (λ r. (four r.0, r.1)) (fixed_at w32 bs)
     else None
 
--- the number and payload of the field at the front: its tag is the number times 8 and the wire type, and
+-- the number and payload of the field at the beginning: its tag is the number times 8 and the wire type, and
 -- numbers go from 1 to 2 ^ 29 - 1
 unfoldable pub field_at : List ℕ → Option ((ℕ × Payload) × List ℕ)
 field_at bs = do
@@ -72,15 +72,15 @@ pub record WireField : Type 0 where
   pub number : ℕ
   pub payload : Payload
 
-abbrev pub with_front : {A : Type 0} → List A → Result (List A) ℕ → Result (List A) ℕ
-with_front front (Ok xs) = Ok (front ++ xs)
-with_front front (Err at) = Err at
+abbrev pub with_prefix : {A : Type 0} → List A → Result (List A) ℕ → Result (List A) ℕ
+with_prefix prefix (Ok xs) = Ok (prefix ++ xs)
+with_prefix prefix (Err at) = Err at
 
 -- the field that was read, before those of the bytes after it
 abbrev pub before_others : ℕ → List ℕ → Option ((ℕ × Payload) × List ℕ) → (ℕ → List ℕ → Result (List WireField) ℕ) → Result (List WireField) ℕ
 before_others at bs None others = Err at
 before_others at bs (Some f) others =
-    with_front (record { at = at; number = f.0.0; payload = f.0.1 } ∷ []) (others (at + (length bs - length f.1)) f.1)
+    with_prefix (record { at = at; number = f.0.0; payload = f.0.1 } ∷ []) (others (at + (length bs - length f.1)) f.1)
 
 -- the fields of bytes that begin at a place, at most n of them, or the place of the one that can't be read
 unfoldable pub fields_within : ℕ → ℕ → List ℕ → Result (List WireField) ℕ

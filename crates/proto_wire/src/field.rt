@@ -5,7 +5,7 @@ ghost use Rattle.proto_wire.specs.declared.field.WireFault.TheVariants.{Memory};
 use std::alloc::{AllocError, AllocFailed};
 
 /// What a field holds, by its wire type.
-#[derive(Clone, Copy, Debug, PartialEq, Eq)]
+#[derive(Clone, Copy)]
 pub enum Body<'a> {
     /// Wire type 0.
     Varint(u64),
@@ -18,17 +18,18 @@ pub enum Body<'a> {
 }
 
 /// A field of a message.
-#[derive(Clone, Copy, Debug, PartialEq, Eq)]
+#[derive(Clone, Copy)]
 pub struct Field<'a> {
-    /// The place in the message at which the field begins.
+    /// The place in the message at which the field begins, in bytes from 0.
     pub at: u32,
     /// Its number, 1 to 536,870,911.
     pub number: u32,
+    /// What it holds.
     pub body: Body<'a>,
 }
 
-/// A member of a oneof: its number, with the wire type of its values.
-#[derive(Clone, Copy, Debug, PartialEq, Eq)]
+/// A member of a oneof: its field number, with the wire type of its values.
+#[derive(Clone, Copy)]
 pub enum Member {
     /// A number or a bool.
     Varint(u32),
@@ -39,7 +40,7 @@ pub enum Member {
 /// Why a message can't be read.
 #[derive(Clone, Copy, Debug, PartialEq, Eq)]
 pub enum WireFault {
-    /// The place of the field that can't be read, or whose text isn't UTF-8.
+    /// The place of the field that can't be read, or whose text isn't UTF-8, in bytes from 0.
     At(u32),
     /// There was no memory.
     Memory,

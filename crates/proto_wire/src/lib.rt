@@ -3,12 +3,12 @@
 #![tactic(auto)]
 
 pub mod field;
-pub mod laws;
 pub mod nested;
 pub mod oneof;
 pub mod reading;
 pub mod values;
 pub mod varint;
+pub mod wire_laws;
 pub mod wrappers;
 pub mod writing;
 
@@ -18,9 +18,6 @@ pub use oneof::{if_set, read_member};
 pub use reading::fields;
 pub use values::{
     joined, last_bool, last_bytes, last_int64, last_run, last_text, last_uint, last_uint32,
-    occurring, oneof_of, repeated, texts, unread,
+    occurrences, oneof_of, repeated, repeated_copies, texts,
 };
 pub use writing::{put_bytes, put_number, put_text, put_uint};
-
-#[cfg(test)]
-mod tests;

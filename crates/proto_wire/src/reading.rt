@@ -10,9 +10,10 @@ use crate::field::{Body, Field, WireFault};
 use crate::varint::varint;
 use std::alloc::Global;
 
-/// The largest number that a field can have.
+/// The greatest number that a field can have, 2^29 - 1.
 const MOST_NUMBER: u64 = 536_870_911;
 
+/// A number of 32 bits, the low byte first, and the bytes after it.
 fn fixed32(bytes: &[u8]) -> Option<(u32, &[u8])>
     ensures value { seen result ≡ fixed_at w32 bytes.now }
     ensures shorter { IfSome result (λ r. length r.1.now < length bytes.now) }
@@ -20,11 +21,12 @@ fn fixed32(bytes: &[u8]) -> Option<(u32, &[u8])>
     if bytes.len() < 4 {
         return None;
     }
-    let (front, rest) = bytes.split_at(4);
-    let number = u32::from_le_bytes([front[0], front[1], front[2], front[3]]);
+    let (low_first, rest) = bytes.split_at(4);
+    let number = u32::from_le_bytes([low_first[0], low_first[1], low_first[2], low_first[3]]);
     Some((number, rest))
 }
 
+/// A number of 64 bits, the low byte first, and the bytes after it.
 fn fixed64(bytes: &[u8]) -> Option<(u64, &[u8])>
     ensures value { seen result ≡ fixed_at w64 bytes.now }
     ensures shorter { IfSome result (λ r. length r.1.now < length bytes.now) }
@@ -32,16 +34,23 @@ fn fixed64(bytes: &[u8]) -> Option<(u64, &[u8])>
     if bytes.len() < 8 {
         return None;
     }
-    let (front, rest) = bytes.split_at(8);
+    let (low_first, rest) = bytes.split_at(8);
     let number = u64::from_le_bytes([
-        front[0], front[1], front[2], front[3], front[4], front[5], front[6], front[7],
+        low_first[0],
+        low_first[1],
+        low_first[2],
+        low_first[3],
+        low_first[4],
+        low_first[5],
+        low_first[6],
+        low_first[7],
     ]);
     Some((number, rest))
 }
 
-// A length, and that many bytes.
+/// A length and that many bytes, and the bytes after them.
 #[tactic(auto, unfolding(crate::specs::Wire::delimited_at))]
-fn delimited(bytes: &[u8]) -> Option<(&[u8], &[u8])>
+fn read_delimited(bytes: &[u8]) -> Option<(&[u8], &[u8])>
     ensures value { seen_delimited result ≡ delimited_at bytes.now }
     ensures shorter { IfSome result (λ r. length r.0.now + length r.1.now < length bytes.now) }
 {
@@ -52,7 +61,7 @@ fn delimited(bytes: &[u8]) -> Option<(&[u8], &[u8])>
     Some(rest.split_at(len as usize))
 }
 
-// What a field of the wire type holds.
+/// What a field of the wire type holds, and the bytes after it. Wire types 3, 4, 6 and 7 have nothing to read.
 #[tactic(auto, unfolding(crate::specs::Wire::payload_at))]
 fn payload(wire_type: u64, bytes: &[u8]) -> Option<(Body<'_>, &[u8])>
     ensures value { seen_payload result ≡ payload_at wire_type bytes.now }
@@ -68,7 +77,7 @@ fn payload(wire_type: u64, bytes: &[u8]) -> Option<(Body<'_>, &[u8])>
             Some((Body::Eight(v), rest))
         }
         2 => {
-            let (v, rest) = delimited(bytes)?;
+            let (v, rest) = read_delimited(bytes)?;
             Some((Body::Bytes(v), rest))
         }
         5 => {
@@ -79,7 +88,7 @@ fn payload(wire_type: u64, bytes: &[u8]) -> Option<(Body<'_>, &[u8])>
     }
 }
 
-// A field's number, what it holds, and the bytes after it.
+/// A field's number, what it holds, and the bytes after it.
 #[tactic(auto, unfolding(crate::specs::Wire::field_at))]
 fn field(bytes: &[u8]) -> Option<(u32, Body<'_>, &[u8])>
     ensures value { seen_field result ≡ field_at bytes.now }
@@ -96,7 +105,8 @@ fn field(bytes: &[u8]) -> Option<(u32, Body<'_>, &[u8])>
 
 /// The fields of a message, which are the one list of fields that spells the bytes. `At` is the place
 /// of the first field that can't be read: one of wire type 3, 4, 6 or 7, with a number that isn't 1 to
-/// 536,870,911, with a varint of more than ten bytes or of 2^64 or more, or one that runs past the end.
+/// 536,870,911, with a varint of more than ten bytes or of 2^64 or more, or one that runs past the end
+/// (protobuf encoding: Message Structure). `Memory` comes where the list has no room.
 pub fn fields(alloc: Global, bytes: &[u8]) -> Result<Vec<Field<'_>>, WireFault>
     requires { length bytes.now < 2 ^ 32 }
     ensures list { Gives (λ v. views v.items) result (fields bytes.now) }

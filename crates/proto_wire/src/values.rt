@@ -2,7 +2,7 @@
 ghost use Rattle.std.specs.Prelude.{◌≡◌, ◌≤◌, ◌++◌, [], length, map, unwrap_or, Some, IfOk, IfSome};
 ghost use Rattle.std.specs.List.{list_any};
 ghost use Rattle.proto_wire.specs.Reading.{Gives};
-ghost use Rattle.proto_wire.specs.Values.{last_uint, last_uint32, last_int64, last_bool, last_bytes, last_text, texts, joined, repeated, oneof_of, occurring, last_run, delimited_len, as_text, is_of};
+ghost use Rattle.proto_wire.specs.Values.{last_uint, last_uint32, last_int64, last_bool, last_bytes, last_text, texts, joined, repeated, oneof_of, occurrences, last_run, delimited_len, as_text, is_of};
 ghost use Rattle.proto_wire.specs.View.{now, view, views};
 
 use crate::field::{Field, Member, WireFault};
@@ -75,7 +75,11 @@ pub fn repeated<'a>(alloc: Global, list: &[Field<'a>], number: u32) -> Result<Ve
 
 /// Copies of all bytes of the number, each as it stands.
 #[tactic(auto, unfolding(crate::specs::Values::repeated))]
-pub fn unread(alloc: Global, list: &[Field<'_>], number: u32) -> Result<List<List<u8>>, Memory>
+pub fn repeated_copies(
+    alloc: Global,
+    list: &[Field<'_>],
+    number: u32,
+) -> Result<List<List<u8>>, Memory>
     ensures { IfOk result (λ l. l ≡ repeated number (views list.now)) }
 {
     let mut all = List::new(alloc);
@@ -99,14 +103,14 @@ pub fn joined(alloc: Global, list: &[Field<'_>], number: u32) -> Result<Option<L
     let mut all = None;
     for field in list {
         if let Some(bytes) = field.bytes(number) {
-            all = Some(longer(alloc, all, bytes)?);
+            all = Some(append(alloc, all, bytes)?);
         }
     }
     Ok(all)
 }
 
-// The bytes with more of them.
-fn longer(alloc: Global, bytes: Option<List<u8>>, more: &[u8]) -> Result<List<u8>, Memory>
+/// The bytes so far, with these after them.
+fn append(alloc: Global, bytes: Option<List<u8>>, more: &[u8]) -> Result<List<u8>, Memory>
     ensures { IfOk result (λ b. b ≡ unwrap_or bytes [] ++ more.now) }
 {
     let mut all = bytes.unwrap_or(List::new(alloc));
@@ -114,7 +118,7 @@ fn longer(alloc: Global, bytes: Option<List<u8>>, more: &[u8]) -> Result<List<u8
     Ok(all)
 }
 
-// The bytes as text.
+/// The bytes of the field at a place as text. `At` comes exactly where they aren't UTF-8.
 fn as_text(at: u32, bytes: &[u8]) -> Result<&str, WireFault>
     ensures { Gives (λ t. Some t.now) result (as_text at (Some bytes.now)) }
 {
@@ -172,13 +176,13 @@ pub fn oneof_of(list: &[Field<'_>], numbers: &[u32]) -> Option<u32>
 
 /// The fields that are occurrences of the members of a oneof, by number and wire type. A oneof is read
 /// from these: `oneof_of` says which member is set, and `last_run` where its value stands.
-#[tactic(auto, unfolding(crate::specs::Values::occurring))]
-pub fn occurring<'a>(
+#[tactic(auto, unfolding(crate::specs::Values::occurrences))]
+pub fn occurrences<'a>(
     alloc: Global,
     list: &[Field<'a>],
     members: &[Member],
 ) -> Result<Vec<Field<'a>>, Memory>
-    ensures fields { IfOk result (λ v. views v.items ≡ occurring members.now (views list.now)) }
+    ensures fields { IfOk result (λ v. views v.items ≡ occurrences members.now (views list.now)) }
     ensures within { IfOk result (λ v. delimited_len (views v.items) ≤ delimited_len (views list.now)) }
 {
     let mut all = Vec::new(alloc);
@@ -190,6 +194,7 @@ pub fn occurring<'a>(
     Ok(all)
 }
 
+/// Whether the field is an occurrence of one of the members.
 fn is_of_any(field: &Field<'_>, members: &[Member]) -> bool
     ensures { result ≡ list_any (is_of (view field.now)) members.now }
 {

@@ -3,8 +3,11 @@ ghost use Rattle.std.specs.Prelude.{◌≡◌, ◌<◌, ◌≤◌, ◌+◌, ◌-
 ghost use Rattle.proto_wire.specs.View.{seen};
 ghost use Rattle.proto_wire.specs.Wire.{varint_within, varint_at, fits, with_rest};
 
-// The number whose seven low bits are those of the byte, and whose other bits are the high number, where
-// it has 64 bits.
+/// The most bytes that a varint has.
+pub(crate) const MOST_VARINT_BYTES: u32 = 10;
+
+/// The number whose seven low bits are those of the byte, and whose other bits are the high number. None where it
+/// is 2^64 or more.
 fn onto_low(byte: u8, high: u64) -> Option<u64>
     requires { 128 ≤ byte }
     ensures { result ≡ fits (byte - 128 + 128 * high) }
@@ -13,6 +16,7 @@ fn onto_low(byte: u8, high: u64) -> Option<u64>
     high.checked_add(u64::from(byte - 128))
 }
 
+/// The same number, with the bytes after it.
 fn onto_low_before(byte: u8, high: u64, rest: &[u8]) -> Option<(u64, &[u8])>
     requires { 128 ≤ byte }
     ensures value { seen result ≡ with_rest rest.now (fits (byte - 128 + 128 * high)) }
@@ -24,7 +28,7 @@ fn onto_low_before(byte: u8, high: u64, rest: &[u8]) -> Option<(u64, &[u8])>
     }
 }
 
-// A varint of at most n bytes, and the bytes after it.
+/// A varint of at most n bytes, and the bytes after it.
 fn varint_within(n: u32, bytes: &[u8]) -> Option<(u64, &[u8])>
     ensures value { seen result ≡ varint_within n bytes.now }
     ensures shorter { IfSome result (λ r. length r.1.now < length bytes.now) }
@@ -46,12 +50,12 @@ fn varint_within(n: u32, bytes: &[u8]) -> Option<(u64, &[u8])>
     }
 }
 
-/// The varint at the front, and the bytes after it. A varint has at most ten bytes, whatever its
+/// The varint at the beginning, and the bytes after it. A varint has at most ten bytes, whatever its
 /// spelling, and is below 2^64.
 #[tactic(auto, unfolding(crate::specs::Wire::varint_at))]
 pub fn varint(bytes: &[u8]) -> Option<(u64, &[u8])>
     ensures value { seen result ≡ varint_at bytes.now }
     ensures shorter { IfSome result (λ r. length r.1.now < length bytes.now) }
 {
-    varint_within(10, bytes)
+    varint_within(MOST_VARINT_BYTES, bytes)
 }

@@ -2,16 +2,14 @@
 ghost use Rattle.std.specs.Prelude.{◌≡◌, ◌++◌, OnOk, OnErr};
 ghost use Rattle.proto_wire.specs.Spelling.{spelled_within, spelled_uint, spelled_bytes, number_field, text_field};
 
+use crate::varint::MOST_VARINT_BYTES;
 use std::alloc::Global;
 use xc_base::{List, Memory};
-
-/// How many bytes a varint has at most.
-const MOST_BYTES: u32 = 10;
 
 /// The wire type of a length and that many bytes.
 const DELIMITED: u64 = 2;
 
-// Adds a varint of at most n bytes.
+/// Adds a varint of at most n bytes. For want of memory a part of it may have been added.
 fn put_within(out: &mut Vec<u8>, n: u32, v: u64) -> Result<(), Memory>
     ensures { OnOk result (out.new.items ≡ out.old.items ++ spelled_within n v) }
 {
@@ -34,8 +32,8 @@ pub fn put_uint(alloc: Global, out: &mut List<u8>, number: u32, v: u64) -> Resul
     ensures err { OnErr result (out.new ≡ out.old) }
 {
     let mut field = Vec::new(alloc);
-    put_within(&mut field, MOST_BYTES, 8 * u64::from(number))?;
-    put_within(&mut field, MOST_BYTES, v)?;
+    put_within(&mut field, MOST_VARINT_BYTES, 8 * u64::from(number))?;
+    put_within(&mut field, MOST_VARINT_BYTES, v)?;
     out.extend_from_slice(&field)
 }
 
@@ -46,8 +44,12 @@ pub fn put_bytes(alloc: Global, out: &mut List<u8>, number: u32, v: &[u8]) -> Re
     ensures err { OnErr result (out.new ≡ out.old) }
 {
     let mut field = Vec::new(alloc);
-    put_within(&mut field, MOST_BYTES, 8 * u64::from(number) + DELIMITED)?;
-    put_within(&mut field, MOST_BYTES, v.len() as u64)?;
+    put_within(
+        &mut field,
+        MOST_VARINT_BYTES,
+        8 * u64::from(number) + DELIMITED,
+    )?;
+    put_within(&mut field, MOST_VARINT_BYTES, v.len() as u64)?;
     field.extend_from_slice(v)?;
     out.extend_from_slice(&field)
 }

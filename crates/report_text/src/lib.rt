@@ -1,18 +1,8 @@
-//! The text of a report: what each entry of a journal prints, line by line.
+//! The text of a report: its first line, what each entry of a journal prints, and its last line.
 #![tactic(auto)]
 
-pub mod callers;
-pub mod driver;
-pub mod entries;
-pub mod picks;
+pub mod entry_report;
 pub mod report;
-pub mod requests;
-pub mod snapshots;
-pub mod trees;
-pub mod words;
 
-pub use entries::entry_text;
+pub use entry_report::entry_text;
 pub use report::{end_line, head_line};
-
-#[cfg(test)]
-mod tests;

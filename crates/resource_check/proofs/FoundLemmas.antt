@@ -6,17 +6,17 @@ use Rattle.proto_discovery.specs.declared.any.AnyValue.{AnyValue}
 use Rattle.proto_discovery.specs.declared.wrapper.Unwrapped.{Unwrapped}
 use Rattle.xc_base.specs.declared.names.Kind.{Kind}
 use Rattle.xds_name.specs.Names.{canonical_of}
-use Rattle.resource_check.specs.declared.fault.Fault.{Fault}
-use Rattle.resource_check.specs.declared.fault.Fault.TheVariants.{Stopped, Memory}
-use Rattle.resource_check.specs.declared.fault.Halt.{Halt}
-use Rattle.resource_check.specs.declared.fault.Halt.TheVariants as halt
-use Rattle.resource_check.specs.declared.fault.Refusal.{Refusal}
+use Rattle.check_steps.specs.declared.check_fault.Fault.{Fault}
+use Rattle.check_steps.specs.declared.check_fault.Fault.TheVariants.{Stopped, Memory}
+use Rattle.check_steps.specs.declared.check_fault.Halt.{Halt}
+use Rattle.check_steps.specs.declared.check_fault.Halt.TheVariants as halt
+use Rattle.check_steps.specs.declared.check_fault.Refusal.{Refusal}
 use Rattle.resource_check.specs.declared.raw.Raw.{Raw}
-use Rattle.resource_check.specs.declared.fault.Stop.{Stop}
+use Rattle.check_steps.specs.declared.check_fault.Stop.{Stop}
 use Rattle.resource_check.specs.Answers.{Halts, halt_under}
 use Rattle.resource_check.specs.Resources.{found_of, given_name, message_of, name_of, under}
-use Rattle.resource_check.specs.Steps.{◌>>=◌, Tells, readable}
-use Rattle.resource_check.proofs.NameLemmas.{canonical_some}
+use Rattle.check_steps.specs.TableSteps.{◌>>=◌, Tells, readable}
+use Rattle.check_steps.proofs.NameLemmas.{canonical_some}
 
 -- what holds of a value that was given
 pub when_ok : {A E : Type 0} (result : Result A E) (P : A → Type 0) (x : A) → result ≡ Ok x → IfOk result P → P x

@@ -1,15 +1,3 @@
-pub mod AskingLemmas
-pub mod EachLemmas
+pub mod DeliveryLemmas
 pub mod FoundLemmas
-pub mod FractionLemmas
-pub mod GapLemmas
-pub mod HostLemmas
-pub mod LawLemmas
-pub mod LoopLemmas
-pub mod NameLemmas
-pub mod OnceLemmas
-pub mod OrderLemmas
-pub mod RouteLemmas
-pub mod SplitLemmas
-pub mod TestLemmas
-pub mod WeightLemmas
+pub mod GainLemmas

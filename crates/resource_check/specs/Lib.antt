@@ -1,14 +1,3 @@
 pub mod Answers
-pub mod Asking
-pub mod Assignments
-pub mod ClusterTable
-pub mod Fractions
-pub mod HeaderTable
-pub mod Lawful
-pub mod ListenerTable
-pub mod Names
-pub mod Places
+pub mod Deliveries
 pub mod Resources
-pub mod RouteTable
-pub mod Sets
-pub mod Steps

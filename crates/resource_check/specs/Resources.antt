@@ -10,25 +10,25 @@ use Rattle.proto_discovery.specs.Wrapper.{unwrapped}
 use Rattle.proto_discovery.specs.declared.any.AnyValue.{AnyValue}
 use Rattle.proto_discovery.specs.declared.wrapper.Unwrapped.{Unwrapped}
 use Rattle.proto_listener.specs.Listener.{listener_of}
-use Rattle.proto_route.specs.Routes.{routes_of}
+use Rattle.proto_route.specs.RawRouteFields.{routes_of}
 use Rattle.proto_cluster.specs.Cluster.{cluster_of}
 use Rattle.proto_cluster.specs.Assignment.{assignment_of}
 use Rattle.xds_config.specs.declared.value.Value.{Value}
 use Rattle.xds_config.specs.declared.value.Value.TheVariants as value
 use Rattle.xds_name.specs.Names.{canonical_of}
-use Rattle.resource_check.specs.declared.fault.Stop.{Stop}
-use Rattle.resource_check.specs.declared.fault.Stop.TheVariants.{Because, Refused}
-use Rattle.resource_check.specs.declared.fault.Refusal.{Refusal}
+use Rattle.check_steps.specs.declared.check_fault.Stop.{Stop}
+use Rattle.check_steps.specs.declared.check_fault.Stop.TheVariants.{Because, Refused}
+use Rattle.check_steps.specs.declared.check_fault.Refusal.{Refusal}
 use Rattle.resource_check.specs.declared.raw.Raw.{Raw}
 use Rattle.resource_check.specs.declared.raw.Raw.TheVariants as raw
 use Rattle.resource_check.specs.declared.raw.Found.{Found}
 use Rattle.resource_check.specs.declared.resource.Checked.{Checked}
-use Rattle.resource_check.specs.Assignments.{assignment_value}
-use Rattle.resource_check.specs.ClusterTable.{cluster_value}
-use Rattle.resource_check.specs.ListenerTable.{listener_value}
-use Rattle.resource_check.specs.Names.{named}
-use Rattle.resource_check.specs.RouteTable.{route_value}
-use Rattle.resource_check.specs.Steps.{◌>>=◌, demand, readable}
+use Rattle.check_clusters.specs.Assignments.{assignment_value}
+use Rattle.check_clusters.specs.ClusterTable.{cluster_value}
+use Rattle.check_routes.specs.ListenerTable.{listener_value}
+use Rattle.check_steps.specs.ResourceNames.{required_name}
+use Rattle.check_routes.specs.RouteTable.{route_value}
+use Rattle.check_steps.specs.TableSteps.{◌>>=◌, demand, readable}
 
 -- a step at which the resource has this name
 abbrev pub under : {A : Type 0} → Option (List ℕ) → Result A Stop → Result A Refusal
@@ -65,7 +65,7 @@ given_name (Some (b ∷ bs)) = Some (canonical_of (b ∷ bs))
 -- the wrapper's name, else field 1
 abbrev pub name_of : Option (List ℕ) → Raw → Result (List ℕ) Stop
 name_of (Some name) message = Ok name
-name_of None message = named (own_name message)
+name_of None message = required_name (own_name message)
 
 abbrev pub value_of : (List ℕ → Bool) → List ℕ → Raw → Result Value Stop
 value_of refuses name (raw.Listener message) = listener_value refuses name message >>= λ v. Ok (value.Listener v)

@@ -1,24 +1,24 @@
 //! The check of a resource (gRFC A27, Envoy's xDS transport).
-ghost use Rattle.std.specs.Prelude.{◌≡◌, ◌≢◌, ◌<◌, ◌^◌, [], length, Result, Ok, IfOk, IfSome};
+ghost use Rattle.std.specs.Prelude.{◌≡◌, ◌≢◌, ◌<◌, ◌^◌, ◌++◌, [], length, Result, Ok, IfOk, IfSome};
 ghost use Rattle.proto_discovery.specs.Wrapper.{unwrapped};
-ghost use Rattle.resource_check.specs.Answers.{Answers, AnswersOver, Gives, GivesOver, fault_of, halt_under};
-ghost use Rattle.resource_check.specs.Asking.{Asks, TellsOver, refusing};
+ghost use Rattle.resource_check.specs.Answers.{Answers, AnswersOver, Gives, GivesOver, TellsAll, fault_of, halt_ending, halt_text, halt_under, new_text};
+ghost use Rattle.check_steps.specs.Asking.{Asks, AsksUntil, TellsOver, ending, refusing};
 ghost use Rattle.resource_check.specs.Resources.{check_of, found_of, given_name, message_of, name_of, raw_kind, reason_of, under, value_of};
-ghost use Rattle.resource_check.specs.Steps.{Tells, readable};
-ghost use Rattle.resource_check.specs.declared.fault.Refusal.{Refusal as Stopping};
-ghost use Rattle.resource_check.specs.declared.fault.Stop.{Stop as StopAt};
+ghost use Rattle.check_steps.specs.TableSteps.{Tells, readable};
+ghost use Rattle.check_steps.specs.declared.check_fault.Refusal.{Refusal as Stopping};
+ghost use Rattle.check_steps.specs.declared.check_fault.Stop.{Stop as StopAt};
 ghost use Rattle.xds_config.specs.Values.{IsLawfulValue, kind_of};
 
-use crate::asked::Asked;
-use crate::assignment::check_assignment;
-use crate::cluster::check_cluster;
-use crate::fault::{CheckFault, Fault, Halt, Refusal, Stop};
-use crate::hosts::check_routes;
-use crate::listener::check_listener;
-use crate::names::named;
 use crate::raw::{Found, Raw, read_raw};
 use crate::resource::Checked;
-use crate::steps::demand;
+use check_clusters::assignment_check::check_assignment;
+use check_clusters::cluster_check::check_cluster;
+use check_routes::host_check::check_routes;
+use check_routes::listener_check::check_listener;
+use check_steps::asked::Asked;
+use check_steps::check_fault::{CheckFault, Fault, Halt, Refusal, Stop};
+use check_steps::resource_names::required_name;
+use check_steps::table_steps::demand;
 use header_match::Patterns;
 use proto_discovery::{AnyValue, Unwrapped, type_url, unwrap_resource};
 use proto_wire::WireFault;
@@ -30,7 +30,7 @@ use xds_name::canonical;
 // ---- refusals
 
 /// The reason of a step at which checks stop: a pattern that is refused is a bad one.
-fn reason(stop: Stop) -> Reason
+pub(crate) fn reason(stop: Stop) -> Reason
     ensures { result ≡ reason_of stop }
 {
     match stop {
@@ -52,6 +52,7 @@ fn halt_under(name: Option<Text>, fault: Fault) -> Halt
 fn under<T: Drop>(name: Option<Text>, answer: Result<T, Fault>) -> Result<T, Halt>
     ensures answers { (step : Result T StopAt) → Tells answer step → Gives result (under name step) }
     ensures given { IfOk result (λ value. answer ≡ Ok value) }
+    ensures ending { halt_ending result ≡ ending answer }
 {
     match answer {
         Ok(value) => Ok(value),
@@ -73,7 +74,7 @@ fn fault_of(halt: Halt) -> CheckFault
 }
 
 /// An answer with the reason of a refusal alone.
-fn reasoned<T: Drop>(answer: Result<T, Halt>) -> Result<T, CheckFault>
+fn with_reason<T: Drop>(answer: Result<T, Halt>) -> Result<T, CheckFault>
     ensures answers { (step : Result T Stopping) → Gives answer step → Answers result step }
     ensures given { IfOk result (λ value. answer ≡ Ok value) }
 {
@@ -86,7 +87,7 @@ fn reasoned<T: Drop>(answer: Result<T, Halt>) -> Result<T, CheckFault>
 // ---- the resource, with its name
 
 /// The resource without its wrapper.
-fn unwrapped(alloc: Global, any: &AnyValue) -> Result<Unwrapped, Fault>
+fn inner_resource(alloc: Global, any: &AnyValue) -> Result<Unwrapped, Fault>
     requires { length any.now.value < 2 ^ 32 }
     ensures { Tells result (readable (unwrapped any.now)) }
 {
@@ -112,7 +113,7 @@ fn given_name(alloc: Global, name: &Option<Text>) -> Result<Option<Text>, Memory
 }
 
 /// A copy of the name, which shares its bytes.
-fn copied(name: &Option<Text>) -> Result<Option<Text>, Memory>
+fn copy_of(name: &Option<Text>) -> Result<Option<Text>, Memory>
     ensures { IfOk result (λ copy. copy ≡ name.now) }
 {
     match name {
@@ -138,21 +139,21 @@ fn name_of(alloc: Global, given: Option<Text>, raw: &Raw) -> Result<Text, Fault>
 {
     match given {
         Some(name) => Ok(name),
-        None => named(alloc, raw.own_name()),
+        None => required_name(alloc, raw.own_name()),
     }
 }
 
 /// A resource that is read, with its name.
 #[tactic(auto, unfolding(crate::specs::Resources::found_of))]
-fn found(alloc: Global, kind: Kind, any: &AnyValue) -> Result<Found, Halt>
+fn read_resource(alloc: Global, kind: Kind, any: &AnyValue) -> Result<Found, Halt>
     requires { length any.now.value < 2 ^ 32 }
     ensures value { Gives result (found_of kind any.now) }
     ensures name { IfOk result (λ found. found.name ≢ []) }
     ensures kind { IfOk result (λ found. raw_kind found.raw ≡ kind) }
 {
-    let resource = under(None, unwrapped(alloc, any))?;
+    let resource = under(None, inner_resource(alloc, any))?;
     let given = given_name(alloc, &resource.name)?;
-    let shown = copied(&given)?;
+    let shown = copy_of(&given)?;
     let raw = under(shown, message(alloc, kind, &resource.inner))?;
     let name = under(None, name_of(alloc, given, &raw))?;
     Ok(Found { name, raw })
@@ -169,7 +170,7 @@ fn value<P: Patterns>(
     raw: &Raw,
 ) -> Result<Value, Fault>
     ensures value { TellsOver asked.new result (λ refuses. value_of refuses name.now raw.now) }
-    ensures asked { Asks asked.old asked.new (P.refused patterns.old) (P.refused patterns.new) }
+    ensures asked { AsksUntil asked.old asked.new (P.refused patterns.old) (P.refused patterns.new) (ending result) }
     ensures lawful { name.now ≢ [] → IfOk result IsLawfulValue }
     ensures kind { IfOk result (λ v. kind_of v ≡ raw_kind raw.now) }
 {
@@ -196,7 +197,7 @@ fn value<P: Patterns>(
 
 /// The value of a resource with its name, over the texts that were asked by then.
 #[tactic(auto, unfolding(crate::specs::Resources::check_of))]
-fn checked<P: Patterns>(
+fn check_in_turn<P: Patterns>(
     alloc: Global,
     kind: Kind,
     any: &AnyValue,
@@ -205,12 +206,12 @@ fn checked<P: Patterns>(
 ) -> Result<Checked, Halt>
     requires { length any.now.value < 2 ^ 32 }
     ensures value { GivesOver asked.new result (λ refuses. check_of refuses kind any.now) }
-    ensures asked { Asks asked.old asked.new (P.refused patterns.old) (P.refused patterns.new) }
+    ensures asked { AsksUntil asked.old asked.new (P.refused patterns.old) (P.refused patterns.new) (halt_ending result) }
     ensures name { IfOk result (λ checked. checked.name ≢ []) }
     ensures lawful { IfOk result (λ checked. IsLawfulValue checked.value) }
     ensures kind { IfOk result (λ checked. kind_of checked.value ≡ kind) }
 {
-    let Found { name, raw } = found(alloc, kind, any)?;
+    let Found { name, raw } = read_resource(alloc, kind, any)?;
     let shown = name.clone()?;
     let value = value(alloc, asked, patterns, &name, &raw);
     let value = under(Some(shown), value)?;
@@ -218,7 +219,9 @@ fn checked<P: Patterns>(
 }
 
 /// The checked value of a resource of the kind, or the step at which its checks stop, under its name where one is
-/// known; where they stop at a pattern, with its text. All else is as with `check`.
+/// known; where they stop at a pattern, with its text. What the refused texts of `asked` gain is this one text, if it
+/// isn't among them yet, and else nothing; and `patterns` refuses no other text in this call, unless memory runs out.
+/// All else is as with `check`.
 pub fn check_or_halt<P: Patterns>(
     alloc: Global,
     kind: Kind,
@@ -229,12 +232,14 @@ pub fn check_or_halt<P: Patterns>(
     requires { length any.now.value < 2 ^ 32 }
     ensures refused { Gives result (check_of (refusing asked.new) kind any.now) }
     ensures later { GivesOver asked.new result (λ refuses. check_of refuses kind any.now) }
+    ensures gains { asked.new.refused ≡ asked.old.refused ++ new_text asked.old.refused (halt_text result) }
+    ensures told { TellsAll result (P.refused patterns.old) (P.refused patterns.new) (new_text asked.old.refused (halt_text result)) }
     ensures asked { Asks asked.old asked.new (P.refused patterns.old) (P.refused patterns.new) }
     ensures name { IfOk result (λ checked. checked.name ≢ []) }
     ensures lawful { IfOk result (λ checked. IsLawfulValue checked.value) }
     ensures kind { IfOk result (λ checked. kind_of checked.value ≡ kind) }
 {
-    let answer = checked(alloc, kind, any, asked, patterns);
+    let answer = check_in_turn(alloc, kind, any, asked, patterns);
     asked.agree();
     answer
 }
@@ -262,5 +267,5 @@ pub fn check<P: Patterns>(
     ensures kind { IfOk result (λ checked. kind_of checked.value ≡ kind) }
 {
     let answer = check_or_halt(alloc, kind, any, asked, patterns);
-    reasoned(answer)
+    with_reason(answer)
 }

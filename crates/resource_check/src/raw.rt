@@ -1,10 +1,10 @@
 //! Resources as they are read.
 ghost use Rattle.std.specs.Prelude.{◌≡◌, IfOk};
 ghost use Rattle.resource_check.specs.Resources.{own_name, raw_kind, read_raw};
-ghost use Rattle.resource_check.specs.Steps.{Tells, readable};
+ghost use Rattle.check_steps.specs.TableSteps.{Tells, readable};
 
-use crate::fault::Fault;
-use crate::steps::read;
+use check_steps::check_fault::Fault;
+use check_steps::table_steps::read;
 use proto_cluster::{RawAssignment, RawCluster};
 use proto_listener::RawListener;
 use proto_route::RawRoutes;

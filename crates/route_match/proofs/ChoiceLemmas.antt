@@ -5,7 +5,7 @@ use Rattle.std.proofs.lemmas.List.{length-map, get_or-map}
 use Rattle.std.proofs.lemmas.List.Sums.{sum_by_more, sum_by-take-le}
 use Rattle.std.specs.Prelude.{unwrap_or}
 use Rattle.xds_config.specs.declared.route_values.Weighted.{Weighted}
-use Rattle.xds_config.specs.Routes.{weights_of}
+use Rattle.xds_config.specs.RouteValues.{weights_of}
 use Rattle.weight_pick.specs.Weights.{place_by_weight}
 use Rattle.weight_pick.proofs.WeightLemmas.{first_above}
 

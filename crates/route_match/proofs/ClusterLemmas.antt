@@ -11,11 +11,11 @@ use Rattle.xds_config.specs.declared.route_values.Action.TheVariants.{To as Forw
 use Rattle.xds_config.specs.declared.route_values.Host.{Host}
 use Rattle.xds_config.specs.declared.route_values.Route.{Route}
 use Rattle.xds_config.specs.declared.config.Front.{Front}
-use Rattle.xds_config.specs.Routes.{action_clusters, host_clusters}
+use Rattle.xds_config.specs.RouteValues.{action_clusters, host_clusters}
 use Rattle.xds_config.specs.Configs.{front_clusters}
 use Rattle.route_match.specs.declared.answer.RouteAnswer.{RouteAnswer}
 use Rattle.route_match.specs.declared.answer.RouteAnswer.TheVariants.{To, NoRoute, NoAction, NoFront}
-use Rattle.route_match.specs.Clusters.{chosen_of, answer_cluster}
+use Rattle.route_match.specs.NamedClusters.{chosen_of, answer_cluster}
 
 chosen_named : (action : Action) (choice : ℕ) (name : List ℕ) → chosen_of action choice ≡ Some name → Contains (action_clusters action) name
 chosen_named (Forward clusters) choice name e =

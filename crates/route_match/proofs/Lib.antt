@@ -4,4 +4,3 @@ pub mod HostLemmas
 pub mod Least
 pub mod Members
 pub mod RouteLemmas
-pub mod RowLemmas

@@ -8,7 +8,7 @@ use Rattle.xc_base.specs.declared.call.Call.{Call}
 use Rattle.xds_config.specs.declared.route_values.Route.{Route}
 use Rattle.xds_config.specs.declared.route_values.Host.{Host}
 use Rattle.xds_config.specs.declared.config.Front.{Front}
-use Rattle.xds_config.specs.Routes.{IsLawfulHost}
+use Rattle.xds_config.specs.RouteValues.{IsLawfulHost}
 use Rattle.xds_config.specs.Configs.{IsLawfulFront}
 use Rattle.route_match.specs.declared.answer.RouteAnswer.TheVariants.{NoRoute}
 use Rattle.route_match.specs.Routes.{route_met, routes_of, least_met, led, routed, tried}

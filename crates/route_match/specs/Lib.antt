@@ -1,4 +1,4 @@
-pub mod Clusters
+pub mod NamedClusters
 pub mod Domains
 pub mod Ranks
 pub mod Routes

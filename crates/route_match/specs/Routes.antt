@@ -17,7 +17,7 @@ use Rattle.xds_config.specs.declared.route_values.PathTest.TheVariants.{Prefix, 
 use Rattle.xds_config.specs.declared.route_values.Action.{Action}
 use Rattle.xds_config.specs.declared.route_values.Action.TheVariants.{To as Forward, Nothing}
 use Rattle.xds_config.specs.declared.config.Front.{Front}
-use Rattle.xds_config.specs.Routes.{weights_of}
+use Rattle.xds_config.specs.RouteValues.{weights_of}
 use Rattle.route_match.specs.declared.answer.RouteAnswer.{RouteAnswer}
 use Rattle.route_match.specs.declared.answer.RouteAnswer.TheVariants.{To, NoRoute, NoAction, NoFront}
 

@@ -1,7 +1,7 @@
 //! Where a call goes.
 use xc_base::{Reason, Same};
 
-/// Where a call goes. A `route` is the place of a route among all routes of its virtual host in the
+/// Where a call goes (gRFC A28). A `route` is the place of a route among all routes of its virtual host in the
 /// resource, from 0, and a `choice` a place in that route's list of weighted clusters, from 0.
 #[derive(Clone, Copy, Debug, PartialEq, Eq)]
 pub enum RouteAnswer {
@@ -9,9 +9,9 @@ pub enum RouteAnswer {
     To { route: u32, choice: u32 },
     /// No route is for the call.
     NoRoute,
-    /// The route leads nowhere.
+    /// The route is for another action than forwarding, so the call fails.
     NoAction { route: u32 },
-    /// There are no routes.
+    /// The configuration has no routes, for this reason.
     NoFront { reason: Reason },
 }
 

@@ -7,7 +7,7 @@ use header_match::texts::{begins_with, ends_with, is_same};
 use xc_base::Text;
 
 /// What a domain is (Envoy's `VirtualHost.domains`), the preferred ones first.
-#[derive(Clone, Copy, Debug, PartialEq, Eq)]
+#[derive(Clone, Copy)]
 pub enum Class {
     /// `www.foo.com`
     Exact,
@@ -32,6 +32,7 @@ impl Class {
         }
     }
 
+    /// The place of the class among all, of which the preferred one is 0.
     fn order(self) -> u8
         ensures { result ≡ order_of self }
     {
@@ -44,8 +45,9 @@ impl Class {
     }
 }
 
-/// By what a domain is preferred to others, with the place of its host.
-#[derive(Clone, Copy, Debug, PartialEq, Eq)]
+/// By what a domain is preferred to others: its class, then its length in bytes. The host is the place of
+/// its virtual host, from 0.
+#[derive(Clone, Copy)]
 pub struct Rank {
     pub class: Class,
     pub length: usize,
@@ -63,14 +65,14 @@ pub fn domain_met(domain: &[u8], text: &[u8]) -> bool
             domain.len() - 1 < text.len() && ends_with(text, &domain[1..], true)
         }
         Class::PrefixWildcard => {
-            let front = &domain[..domain.len() - 1];
-            front.len() < text.len() && begins_with(text, front, true)
+            let prefix = &domain[..domain.len() - 1];
+            prefix.len() < text.len() && begins_with(text, prefix, true)
         }
         Class::Universal => !text.is_empty(),
     }
 }
 
-// The rank of a domain that the text meets.
+/// The rank of a domain, if the text meets it.
 pub(crate) fn rank_of(host: u32, domain: &Text, text: &Text) -> Option<Rank>
     ensures { result ≡ rank_of host domain.now text.now }
 {
@@ -85,13 +87,14 @@ pub(crate) fn rank_of(host: u32, domain: &Text, text: &Text) -> Option<Rank>
     })
 }
 
+/// Whether a domain of the first rank is preferred to one of the second.
 fn outranks(a: Rank, b: Rank) -> bool
     ensures { result ≡ outranks a b }
 {
     a.class.order() < b.class.order() || a.class.order() == b.class.order() && a.length > b.length
 }
 
-// The better of two, and the first of two that are alike.
+/// The better of two ranks, and the first of two that are alike.
 pub(crate) fn better(best: Option<Rank>, rank: Option<Rank>) -> Option<Rank>
     ensures { result ≡ better best rank }
 {

@@ -4,13 +4,10 @@
 pub mod answer;
 pub mod clusters;
 pub mod domains;
-pub mod hosts;
-pub mod routes;
+pub mod host_choice;
+pub mod route_choice;
 
 pub use answer::RouteAnswer;
 pub use clusters::cluster_of;
-pub use hosts::choose_host;
-pub use routes::choose_route;
-
-#[cfg(test)]
-mod tests;
+pub use host_choice::choose_host;
+pub use route_choice::choose_route;

@@ -2,8 +2,8 @@
 use Rattle.std.proofs.Common.{◌≡◌, ◌⊎◌, inl, inr, Bool, true, false, cond, List, [], ◌∷◌, ℕ, Option, Some, None, refl, sym, subst, codes, ◌↔◌}
 use Rattle.std.specs.Str.{bytes_eq}
 use Rattle.std.proofs.lemmas.Slice.Eq.{bytes_eq-Decides}
-use Rattle.session_script.specs.Forms.{Form, with_none, with_one, with_two, driver_form, commit_form, pick_form, start_form, caller_form, of_caller, of_driver, form_of}
-use Rattle.session_script.specs.Forms as form
+use Rattle.session_lines.specs.Forms.{Form, with_none, with_one, with_two, driver_form, commit_form, pick_form, start_form, caller_form, of_caller, of_driver, form_of}
+use Rattle.session_lines.specs.Forms as form
 use Rattle.session_script.specs.Table.{IsForm}
 use Rattle.session_script.specs.Table as is
 

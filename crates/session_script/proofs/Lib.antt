@@ -1,11 +1,6 @@
 mod CountLemmas
-pub mod FieldLemmas
 mod FormLemmas
 mod FrameLemmas
 mod TableLemmas
-mod RoomLemmas
-mod KeptLemmas
-pub mod LineLemmas
+pub mod RoomLemmas
 mod SessionLemmas
-mod TextLemmas
-mod WordLemmas

@@ -6,15 +6,15 @@ use Rattle.std.proofs.lemmas.List.Elements.{All-head, All-tail}
 use Rattle.std.proofs.lemmas.List.Sums.{sum_by-cons, length-filter}
 use Rattle.call_journal.specs.declared.entry.Entry.{Entry}
 use Rattle.call_journal.specs.declared.event.DriverEvent.TheVariants as event
-use Rattle.session_script.specs.Before.{entries, entries_of, act_entries, driver_entries}
+use Rattle.session_lines.specs.Before.{entries, entries_of, act_entries, driver_entries}
 use Rattle.session_script.specs.Plan.{Streams, ended_in, played_of, data_events, events_of, work_events, work_streams, driver_list, none_up, entries_by, is_of_caller, lines_by, caller_event, how_of, listed_for, entry_event, listed_event, ActEvents, WorkEvents, ArePlayed, all, next, AreListed}
-use Rattle.session_script.specs.declared.session.Act.{Act}
-use Rattle.session_script.specs.declared.session.Act.TheVariants as act
-use Rattle.session_script.specs.declared.session.DriverLine.{DriverLine}
-use Rattle.session_script.specs.declared.session.DriverLine.TheVariants as driver
-use Rattle.session_script.specs.declared.session.Line.{Line}
-use Rattle.session_script.specs.declared.session.Work.{Work}
-use Rattle.session_script.specs.declared.session.Work.TheVariants as work
+use Rattle.session_lines.specs.declared.session.Act.{Act}
+use Rattle.session_lines.specs.declared.session.Act.TheVariants as act
+use Rattle.session_lines.specs.declared.session.DriverLine.{DriverLine}
+use Rattle.session_lines.specs.declared.session.DriverLine.TheVariants as driver
+use Rattle.session_lines.specs.declared.session.Line.{Line}
+use Rattle.session_lines.specs.declared.session.Work.{Work}
+use Rattle.session_lines.specs.declared.session.Work.TheVariants as work
 use Rattle.xc_base.specs.declared.names.Authority.{Authority}
 use Rattle.session_script.proofs.FrameLemmas.{few_ended}
 
@@ -86,7 +86,7 @@ few_work : (w : Work) (events : List _) → WorkEvents w events → length event
 few_work (work.Driver what) events e = absurd e
 few_work (work.Caller caller what) events e = few_act what events e
 
-few_caller : (lines : List Line) (made : List Entry) → ArePlayed lines made → length made ≤ sum_by (λ line. entries_of line.work) lines
+pub few_caller : (lines : List Line) (made : List Entry) → ArePlayed lines made → length made ≤ sum_by (λ line. entries_of line.work) lines
 few_caller lines made all = omega arith
 few_caller lines made (next line more now later numbers events rest) =
     let here = few_work line.work (map _ now) events in

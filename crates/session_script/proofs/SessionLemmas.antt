@@ -1,13 +1,13 @@
 -- Lines are read one after another.
 use Rattle.std.proofs.Common.{◌≡◌, ℕ, suc, ◌+◌, List, [], ◌∷◌, length, Result, Ok, Err, refl, arith}
-use Rattle.session_script.specs.Session.{Refusal, ◌>>=◌, onto, at_line, Fails, lines_from, with_line}
-use Rattle.session_script.specs.Works.{line_of}
-use Rattle.session_script.specs.Lines.{lines_of}
-use Rattle.session_script.specs.declared.cause.Cause.{Cause}
-use Rattle.session_script.specs.declared.cause.SessionFault.{SessionFault}
-use Rattle.session_script.specs.declared.cause.SessionFault.TheVariants as fault
-use Rattle.session_script.specs.declared.head.Head.{Head}
-use Rattle.session_script.specs.declared.session.Line.{Line}
+use Rattle.session_lines.specs.Session.{Refusal, ◌>>=◌, onto, at_line, Fails, lines_from, with_line}
+use Rattle.session_lines.specs.Works.{line_of}
+use Rattle.session_lines.specs.Lines.{lines_of}
+use Rattle.session_lines.specs.declared.cause.Cause.{Cause}
+use Rattle.session_lines.specs.declared.cause.SessionFault.{SessionFault}
+use Rattle.session_lines.specs.declared.cause.SessionFault.TheVariants as fault
+use Rattle.session_lines.specs.declared.session_head.Head.{Head}
+use Rattle.session_lines.specs.declared.session.Line.{Line}
 
 fails_on : {A B : Type 0} (e : SessionFault) (r : Result A Refusal) (f : A → Result B Refusal) → Fails e r → Fails e (r >>= f)
 fails_on fault.Memory r f h = tt

@@ -8,17 +8,17 @@ use Rattle.xc_base.specs.declared.call.Header.{Header}
 use Rattle.xc_base.specs.declared.names.Authority.{Authority}
 use Rattle.xc_base.specs.declared.names.State.{State}
 use Rattle.xds_bootstrap.specs.declared.bootstrap.Bootstrap.{Bootstrap}
-use Rattle.session_script.specs.Lines.{words_of}
-use Rattle.session_script.specs.Forms.{Form, form_of, gate_in}
-use Rattle.session_script.specs.Forms as form
-use Rattle.session_script.specs.Before.{data_lens, latest, is_of_other, is_started}
-use Rattle.session_script.specs.Values.{authority_in, number_up_to, number_within, is_number, bytes_in, state_in, path_in, fields_in}
-use Rattle.session_script.specs.Works.{◌>>=◌, check, some_gate, work_of, gate_of, line_with, line_of, is_too_many}
+use Rattle.session_lines.specs.Lines.{words_of}
+use Rattle.session_lines.specs.Forms.{Form, form_of, gate_in}
+use Rattle.session_lines.specs.Forms as form
+use Rattle.session_lines.specs.Before.{data_lens, latest, is_of_other, is_started}
+use Rattle.session_lines.specs.WordValues.{authority_in, number_up_to, number_within, is_number, bytes_in, state_in, path_in, fields_in}
+use Rattle.session_lines.specs.Works.{◌>>=◌, check, some_gate, work_of, gate_of, line_with, line_of, is_too_many}
 use Rattle.session_script.specs.Table.{first_of, fault_in, no_gate, form_faults, faults_with, faults_of}
-use Rattle.session_script.specs.declared.cause.Cause.{Cause}
-use Rattle.session_script.specs.declared.cause.Cause.TheVariants as cause
-use Rattle.session_script.specs.declared.session.Line.{Line}
-use Rattle.session_script.specs.declared.session.Work.{Work}
+use Rattle.session_lines.specs.declared.cause.Cause.{Cause}
+use Rattle.session_lines.specs.declared.cause.Cause.TheVariants as cause
+use Rattle.session_lines.specs.declared.session.Line.{Line}
+use Rattle.session_lines.specs.declared.session.Work.{Work}
 
 -- a test that has to hold, before others
 checked : {A : Type 0} (b : Bool) (c : Cause) (reading : Result A Cause) (rows : List (Bool × Cause)) → fault_in reading ≡ first_of rows

@@ -1,12 +1,3 @@
-pub mod Causes
-pub mod Lines
-pub mod Forms
-pub mod Before
-pub mod Values
-pub mod Works
-pub mod Views
-pub mod Session
-pub mod Kept
 pub mod Plan
-pub mod Law
+pub mod ScriptLaws
 pub mod Table

@@ -3,8 +3,8 @@ use Rattle.std.specs.Prelude.{◌≡◌, ℕ, ◌≤◌, ◌⊎◌, List, [], �
 use Rattle.std.specs.List.{list_all}
 use Rattle.grpc_framing.specs.Cut.{cut}
 use Rattle.grpc_framing.specs.Framing.{fault_at}
-use Rattle.grpc_framing.specs.declared.fault.FrameFault.{FrameFault}
-use Rattle.grpc_framing.specs.declared.fault.FrameFault.TheVariants as frame
+use Rattle.grpc_framing.specs.declared.frame_fault.FrameFault.{FrameFault}
+use Rattle.grpc_framing.specs.declared.frame_fault.FrameFault.TheVariants as frame
 use Rattle.call_journal.specs.declared.event.BytesHow.{BytesHow}
 use Rattle.call_journal.specs.declared.event.BytesHow.TheVariants as how
 use Rattle.call_journal.specs.declared.event.DriverEvent.{DriverEvent}
@@ -15,13 +15,13 @@ use Rattle.call_journal.specs.declared.entry.Entry.{Entry}
 use Rattle.call_journal.specs.declared.entry.What.{What}
 use Rattle.call_journal.specs.declared.entry.What.TheVariants as what
 use Rattle.xc_base.specs.declared.names.Authority.{Authority}
-use Rattle.session_script.specs.declared.session.DriverLine.{DriverLine}
-use Rattle.session_script.specs.declared.session.DriverLine.TheVariants as driver
-use Rattle.session_script.specs.declared.session.Act.{Act}
-use Rattle.session_script.specs.declared.session.Act.TheVariants as act
-use Rattle.session_script.specs.declared.session.Work.{Work}
-use Rattle.session_script.specs.declared.session.Work.TheVariants as work
-use Rattle.session_script.specs.declared.session.Line.{Line}
+use Rattle.session_lines.specs.declared.session.DriverLine.{DriverLine}
+use Rattle.session_lines.specs.declared.session.DriverLine.TheVariants as driver
+use Rattle.session_lines.specs.declared.session.Act.{Act}
+use Rattle.session_lines.specs.declared.session.Act.TheVariants as act
+use Rattle.session_lines.specs.declared.session.Work.{Work}
+use Rattle.session_lines.specs.declared.session.Work.TheVariants as work
+use Rattle.session_lines.specs.declared.session.Line.{Line}
 
 -- ---- what the driver's lines make
 

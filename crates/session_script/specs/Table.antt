@@ -3,15 +3,15 @@ use Rattle.std.specs.Prelude.{◌≡◌, ◌↔◌, ℕ, ◌+◌, ◌-◌, List,
 use Rattle.std.specs.Str.{is_utf8}
 use Rattle.xc_base.specs.Addresses.{address_in}
 use Rattle.xds_bootstrap.specs.declared.bootstrap.Bootstrap.{Bootstrap}
-use Rattle.session_script.specs.Lines.{words_of}
-use Rattle.session_script.specs.Forms.{Form, form_of, gate_in}
-use Rattle.session_script.specs.Forms as form
-use Rattle.session_script.specs.Before.{data_lens, latest, is_of_other, is_started}
-use Rattle.session_script.specs.Values.{authority_in, number_up_to, number_within, is_number, bytes_in, state_in, path_in, fields_in}
-use Rattle.session_script.specs.Works.{is_too_many, line_of}
-use Rattle.session_script.specs.declared.cause.Cause.{Cause}
-use Rattle.session_script.specs.declared.cause.Cause.TheVariants as cause
-use Rattle.session_script.specs.declared.session.Line.{Line}
+use Rattle.session_lines.specs.Lines.{words_of}
+use Rattle.session_lines.specs.Forms.{Form, form_of, gate_in}
+use Rattle.session_lines.specs.Forms as form
+use Rattle.session_lines.specs.Before.{data_lens, latest, is_of_other, is_started}
+use Rattle.session_lines.specs.WordValues.{authority_in, number_up_to, number_within, is_number, bytes_in, state_in, path_in, fields_in}
+use Rattle.session_lines.specs.Works.{is_too_many, line_of}
+use Rattle.session_lines.specs.declared.cause.Cause.{Cause}
+use Rattle.session_lines.specs.declared.cause.Cause.TheVariants as cause
+use Rattle.session_lines.specs.declared.session.Line.{Line}
 
 -- ---- the forms
 

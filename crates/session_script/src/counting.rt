@@ -1,11 +1,11 @@
 //! How many entries a session makes.
 ghost use Rattle.std.specs.Prelude.{◌≡◌, ◌+◌, ◌≤◌};
-ghost use Rattle.session_script.specs.Before.{entries};
-ghost use Rattle.session_script.specs.Law.{HasRoom};
+ghost use Rattle.session_lines.specs.Before.{entries};
+ghost use Rattle.session_script.specs.ScriptLaws.{HasRoom};
 
-use crate::session::{Line, Session};
+use session_lines::session::{Line, Session};
 
-// At most how many entries the lines make.
+/// At most how many entries the lines make.
 fn entries(lines: &[Line]) -> u32
     requires few { entries lines.now ≤ 1048575 }
     ensures { result ≡ entries lines.now }

@@ -1,26 +1,12 @@
 //! Written sessions of a channel: the text of a bootstrap, a target, and of what the driver and the callers
-//! do, read to data or to the first fault.
+//! do, read to data or to the first fault; and what a session lists of the events of each.
 #![tactic(auto)]
 
-pub mod cause;
 mod counting;
-mod fields;
-mod forms;
-pub mod head;
-pub mod laws;
-mod lines;
-mod reader;
-pub mod reading;
-pub mod session;
-mod texts;
-mod values;
-mod words;
+pub mod script_laws;
+pub mod session_reading;
 
-pub use cause::{Cause, SessionFault};
 pub use counting::room;
-pub use laws::{faults_are_in_order, forms_are_listed};
-pub use reading::read_session;
-pub use session::{Act, DriverLine, Line, Session, Work};
-
-#[cfg(test)]
-mod tests;
+pub use script_laws::{faults_are_in_order, forms_are_listed};
+pub use session_lines::{Act, Cause, DriverLine, Line, Session, SessionFault, Work};
+pub use session_reading::read_session;

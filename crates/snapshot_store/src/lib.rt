@@ -6,6 +6,3 @@ pub mod history;
 
 pub use archive::{Archive, Ticket};
 pub use history::History;
-
-#[cfg(test)]
-mod tests;

@@ -9,7 +9,7 @@ use Rattle.xc_keys.proofs.KeyLemmas.{same_key, key_itself}
 use Rattle.xc_keys.proofs.MemberLemmas.{mapped, from_mapped}
 use Rattle.xc_keys.proofs.SpanLemmas.{over_none, over_end, over_more, since_first, since_more, never_both, one_since}
 use Rattle.watch_timers.specs.Timers.{Running, started_at, has_run, runs_on, TakesDue}
-use Rattle.watch_timers.specs.Runs.{Event, start, cancel, due, After, StartsKey, StopsKey, IsRunning, RunAsStarted}
+use Rattle.watch_timers.specs.TimerRuns.{Event, start, cancel, due, After, StartsKey, StopsKey, IsRunning, RunAsStarted}
 
 -- the key's timer runs as the calls say, or doesn't run, as they say
 abbrev Found : List Event → Running → Key → Type 0

@@ -2,11 +2,8 @@
 //! absent (Envoy's xDS protocol, "Knowing When a Requested Resource Does Not Exist").
 #![tactic(auto)]
 
-pub mod laws;
+pub mod timer_laws;
 pub mod timers;
 
-pub use laws::timers_run_as_started;
+pub use timer_laws::timers_run_as_started;
 pub use timers::{Started, Timers};
-
-#[cfg(test)]
-mod tests;

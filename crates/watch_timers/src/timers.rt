@@ -12,10 +12,12 @@ use xc_base::{Key, List, Memory, Time};
 /// For how many milliseconds a resource is waited for.
 const PATIENCE: u64 = 15_000;
 
-/// A key whose timer runs, and since when. The earlier stands first, then the lesser key.
+/// A key whose timer runs, and since when. The earlier start stands first, and of equal starts the lesser key.
 #[derive(Drop, PartialEq, Eq, PartialOrd, Ord)]
 pub struct Started {
+    /// When the timer was started, in milliseconds.
     pub at: Time,
+    /// The resource that is waited for.
     pub key: Key,
 }
 
@@ -63,22 +65,26 @@ fn copies_of_due(
     Ok(due)
 }
 
-/// The timers that have run out.
-fn run_out(alloc: Global, starts: &BTreeMap<Key, Time>, now: Time) -> Result<Vec<Started>, Memory>
+/// The timers that have run out, in the order of their keys.
+fn due_timers(
+    alloc: Global,
+    starts: &BTreeMap<Key, Time>,
+    now: Time,
+) -> Result<Vec<Started>, Memory>
     ensures { IfOk result (λ due. due.items ≡ due_of now starts.now.entries) }
 {
     let running: Vec<(&Key, &Time)> = starts.iter().collect(alloc)?;
     copies_of_due(alloc, running.as_slice(), now)
 }
 
-/// The timers in their order, each once.
-fn in_order(alloc: Global, due: Vec<Started>) -> Result<BTreeSet<Started>, Memory>
+/// The timers by their starts and then by their keys, each once.
+fn sort_timers(alloc: Global, due: Vec<Started>) -> Result<BTreeSet<Started>, Memory>
     ensures { IfOk result (IsFromIterResult (⟦<Started as Ord>⟧.cmp) due.items) }
 {
     due.into_iter().collect(alloc)
 }
 
-/// Their keys.
+/// The keys of the timers, in the order of the timers.
 fn keys_of(alloc: Global, starts: BTreeSet<Started>) -> Result<List<Key>, Memory>
     ensures { IfOk result (λ keys. keys ≡ map (λ started. started.key) starts.keys) }
 {
@@ -89,7 +95,7 @@ fn keys_of(alloc: Global, starts: BTreeSet<Started>) -> Result<List<Key>, Memory
     Ok(List::from_vec(keys))
 }
 
-/// Takes out the timers that have run out.
+/// Takes out the timers that have run out, and leaves the others.
 fn take_out(starts: &mut BTreeMap<Key, Time>, now: Time)
     ensures left { starts.new.entries ≡ filter (λ entry. not (has_run now entry.1)) starts.old.entries }
     ensures was_ordered { IsOrdered (⟦<Key as Ord>⟧.cmp) starts.old }
@@ -108,7 +114,8 @@ impl Timers {
         }
     }
 
-    /// Starts the key's timer, unless it runs: then it keeps its time.
+    /// Starts the key's timer at this moment. One that runs keeps the time of its first start. Without memory nothing
+    /// changes.
     pub fn start(&mut self, key: &Key, at: Time) -> Result<(), Memory>
         ensures ok { OnOk result (Starts self.old self.new key.now at) }
         ensures err { OnErr result (self.new ≡ self.old) }
@@ -127,14 +134,14 @@ impl Timers {
         self.starts.remove(key);
     }
 
-    /// Takes out the keys whose timers have run for 15 seconds, by the time of their start, then by kind and
-    /// name.
+    /// Takes out the keys whose timers have run for at least 15,000 ms at this moment, in the order of their starts, and
+    /// those of one start by kind and name. Without memory none is taken out.
     pub fn due(&mut self, now: Time) -> Result<List<Key>, Memory>
         ensures ok { IfOk result (λ keys. TakesDue self.old now keys self.new) }
         ensures err { OnErr result (self.new ≡ self.old) }
     {
-        let due = run_out(self.alloc, &self.starts, now)?;
-        let starts = in_order(self.alloc, due)?;
+        let due = due_timers(self.alloc, &self.starts, now)?;
+        let starts = sort_timers(self.alloc, due)?;
         let keys = keys_of(self.alloc, starts)?;
         take_out(&mut self.starts, now);
         Ok(keys)

@@ -13,7 +13,8 @@ pub struct Fraction {
     pub ghost known: { IsTrue (is_denominator of) },
 }
 
-/// A fraction of calls that is dropped, under a category.
+/// A rule that drops a fraction of the calls, and the category under which the drops are told (Envoy's
+/// `DropOverload`).
 #[derive(Clone, Debug, Drop, PartialEq, Eq)]
 pub struct DropRule {
     pub category: Text,

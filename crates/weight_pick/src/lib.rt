@@ -2,12 +2,9 @@
 #![tactic(auto)]
 
 pub mod choice;
-pub mod fault;
 pub mod fraction;
+pub mod weight_fault;
 
 pub use choice::{at_weight, cumulate, fraction_met};
-pub use fault::WeightFault;
 pub use fraction::{DropRule, Fraction};
-
-#[cfg(test)]
-mod tests;
+pub use weight_fault::WeightFault;

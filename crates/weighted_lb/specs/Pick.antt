@@ -1,5 +1,5 @@
 -- What a pick chooses (gRPC's drop policy, weighted_target and round_robin, with this project's own draws).
-use Rattle.std.specs.Prelude.{◌≡◌, ℕ, ◌+◌, ◌<◌, ◌^◌, if◌then◌else◌, List, [], ◌∷◌, map, length, Option, Some, None}
+use Rattle.std.specs.Prelude.{◌≡◌, ℕ, ◌+◌, ◌<◌, ◌^◌, if◌then◌else◌, List, [], ◌∷◌, map, length, All, Option, Some, None}
 use Rattle.xc_base.specs.Draws.{draw}
 use Rattle.weight_pick.specs.declared.fraction.DropRule.{DropRule}
 use Rattle.weight_pick.specs.Fractions.{fraction_met}
@@ -24,10 +24,27 @@ pub record AreParts (parts : List OnePart) (sums : List ℕ) : Type 0 where
   pub sound : AreWeights (weights_of parts)
   pub few : length parts < 2 ^ 31
 
+-- parts and sums that `make_picker` gives
 abbrev pub IsMade : PickBody → Type 0
 IsMade (body.Ready parts sums) = AreParts parts sums
 IsMade body.Queue = Unit {0}
 IsMade (body.Fail reason) = Unit {0}
+
+-- a part has READY endpoints, which numbers of 32 bits can name
+pub record HasEndpoints (part : OnePart) : Type 0 where
+  pub some : 0 < length part.ready
+  pub few : length part.ready < 2 ^ 32
+
+abbrev pub HaveEndpoints : PickBody → Type 0
+HaveEndpoints (body.Ready parts sums) = All HasEndpoints parts
+HaveEndpoints body.Queue = Unit {0}
+HaveEndpoints (body.Fail reason) = Unit {0}
+
+-- what `choose` asks of a picker, and `endpoint` of its parts
+pub record IsPickable (picker : Picker) : Type 0 where
+  pub made : IsMade picker.body
+  pub few : length picker.drops < 2 ^ 32
+  pub endpoints : HaveEndpoints picker.body
 
 -- the least of the rules that drops the pick, where the first of them has this number: rule j takes draw j
 abbrev pub dropped_from : ℕ → ℕ → List DropRule → Option ℕ

@@ -1,4 +1,5 @@
-//! Weighted localities with their endpoints in turn (gRFC A56, weighted_target and round_robin).
+//! The localities of a priority by weight, and their endpoints in turn: drop rules (Envoy's
+//! ClusterLoadAssignment, gRFC A27), then `weighted_target` and `round_robin`.
 #![tactic(auto)]
 
 pub mod pick;
@@ -8,6 +9,3 @@ pub mod states;
 pub use pick::{choose, copy_rules, endpoint, make_picker};
 pub use picker::{Chosen, Part, PickBody, Picker};
 pub use states::{locality_state, weighted_state};
-
-#[cfg(test)]
-mod tests;

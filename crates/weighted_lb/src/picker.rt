@@ -4,11 +4,14 @@ ghost use Rattle.std.specs.Prelude.{◌≡◌, ◌↔◌, IsTrue};
 use weight_pick::DropRule;
 use xc_base::{Address, List, Reason, Same};
 
-/// A READY locality: its place in its priority, its weight, and its READY endpoints.
+/// A READY locality of a priority.
 #[derive(Debug, Drop)]
 pub struct Part {
+    /// Its place among the localities of its priority, from 0.
     pub locality: u32,
+    /// Its weight, at least 1.
     pub weight: u32,
+    /// Its endpoints that are READY, in the configuration's order.
     pub ready: List<Address>,
 }
 
@@ -22,22 +25,29 @@ pub struct Picker {
 /// What is behind the drop rules.
 #[derive(Debug, Drop)]
 pub enum PickBody {
-    /// The READY localities with the sums of their weights.
-    Ready { parts: List<Part>, sums: List<u64> },
-    /// The priority is CONNECTING.
+    /// The priority is READY: a locality is chosen by weight.
+    Ready {
+        /// The READY localities, whose weights sum to 1 to 4,294,967,295.
+        parts: List<Part>,
+        /// The sums of the weights up to each of them.
+        sums: List<u64>,
+    },
+    /// The priority is CONNECTING: calls wait.
     Queue,
-    /// The priority fails.
+    /// The priority fails: calls fail with this reason.
     Fail(Reason),
 }
 
 /// What a picker chooses.
-#[derive(Clone, Copy, Debug, PartialEq, Eq)]
+#[derive(Clone, Copy)]
 pub enum Chosen {
     /// The drop rule of this number, from 1.
     Drop(u32),
     /// The part at this place, from 0.
     Part(u32),
+    /// The call waits.
     Queue,
+    /// The call fails.
     Fail,
 }
 
@@ -68,6 +78,7 @@ impl Same for PickBody {
     }
 }
 
+/// Whether two lists of sums are equal.
 fn same_sums(sums: &[u64], other: &[u64]) -> bool
     ensures { IsTrue result ↔ (sums.now ≡ other.now) }
 {

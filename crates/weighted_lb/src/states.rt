@@ -26,24 +26,28 @@ pub fn weighted_state(states: &[State]) -> State
     locality_state(states)
 }
 
+/// Whether one of the states is READY.
 fn any_ready(states: &[State]) -> bool
     ensures { result ≡ list_any is_ready states.now }
 {
     states.iter().any(|state| is_ready(*state))
 }
 
+/// Whether one of the states is CONNECTING.
 fn any_connecting(states: &[State]) -> bool
     ensures { result ≡ list_any is_connecting states.now }
 {
     states.iter().any(|state| is_connecting(*state))
 }
 
+/// Whether the state is READY.
 fn is_ready(state: State) -> bool
     ensures { result ≡ is_ready state }
 {
     matches!(state, State::Ready)
 }
 
+/// Whether the state is CONNECTING.
 fn is_connecting(state: State) -> bool
     ensures { result ≡ is_connecting state }
 {

@@ -80,7 +80,7 @@ abbrev pub groups_of : List ℕ → List (List ℕ)
 groups_of [] = []
 groups_of (b ∷ bs) = parts_at 58 (b ∷ bs)
 
--- a byte in front of the first of two texts
+-- the byte before the first of two texts
 abbrev pub with_first : ℕ → Option (List ℕ × List ℕ) → Option (List ℕ × List ℕ)
 with_first b None = None
 with_first b (Some p) = Some (b ∷ p.0, p.1)

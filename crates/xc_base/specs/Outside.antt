@@ -5,8 +5,8 @@ use Rattle.std.specs.Prelude.{◌≡◌, ℕ, ◌<◌, List, ◌++◌, length, O
 abbrev pub TakesSome : {E : Type 0} → Result ℕ E → List ℕ → Type 0
 TakesSome result piece = IfOk result (λ n. 0 < length piece → 0 < n)
 
--- what is held has grown by a front of the text
-abbrev pub AppendsFront : Option (List ℕ) → Option (List ℕ) → List ℕ → Type 0
-AppendsFront None new text = ⊤
-AppendsFront (Some held) None text = ⊥
-AppendsFront (Some held) (Some now) text = (front : List ℕ) × (rest : List ℕ) × (text ≡ front ++ rest) × (now ≡ held ++ front)
+-- what is held has grown by a prefix of the text
+abbrev pub AppendsPrefix : Option (List ℕ) → Option (List ℕ) → List ℕ → Type 0
+AppendsPrefix None new text = ⊤
+AppendsPrefix (Some held) None text = ⊥
+AppendsPrefix (Some held) (Some now) text = (prefix : List ℕ) × (rest : List ℕ) × (text ≡ prefix ++ rest) × (now ≡ held ++ prefix)

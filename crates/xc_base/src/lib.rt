@@ -36,6 +36,3 @@ pub use std_streams::{StdSink, StdSource};
 pub use steps::Steps;
 pub use streams::{ReadFault, read_all, write_all};
 pub use text::Text;
-
-#[cfg(test)]
-mod tests;

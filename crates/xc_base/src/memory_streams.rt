@@ -36,11 +36,11 @@ impl BytesSource {
     }
 }
 
-// Copies the front of `from` into the front of `buf`.
-fn copy_front(from: &[u8], buf: &mut [u8], n: usize)
+/// Copies the first `n` bytes of `from` to the beginning of `buf`.
+fn copy_prefix(from: &[u8], buf: &mut [u8], n: usize)
     requires from { n ≤ length from.now }
     requires buf { n ≤ length buf.old }
-    ensures front { take n buf.new ≡ take n from.now }
+    ensures prefix { take n buf.new ≡ take n from.now }
 {
     buf[..n].copy_from_slice(&from[..n]);
 }
@@ -59,7 +59,7 @@ impl Source for BytesSource {
         }
         let rest = &self.bytes[self.at..];
         let n = rest.len().min(buf.len()).min(self.step);
-        copy_front(rest, buf, n);
+        copy_prefix(rest, buf, n);
         self.at += n;
         Ok(n)
     }

@@ -15,9 +15,13 @@ impl Authority {
 /// The four kinds of resources, in the order in which a stream asks for them.
 #[derive(Clone, Copy, Debug, PartialEq, Eq, PartialOrd, Ord)]
 pub enum Kind {
+    /// A Listener: where a target's routes are found (LDS).
     Listener,
+    /// A RouteConfiguration: which cluster a call goes to (RDS).
     Route,
+    /// A Cluster: a set of endpoints, or an aggregate of clusters (CDS).
     Cluster,
+    /// A ClusterLoadAssignment: the addresses of a cluster (EDS).
     Endpoint,
 }
 
@@ -35,6 +39,7 @@ pub enum NameFault {
 /// Whom a resource is asked of.
 #[derive(Clone, Copy, Debug, PartialEq, Eq, PartialOrd, Ord)]
 pub enum Home {
+    /// The management server of this authority.
     At(Authority),
     /// A resource that is never asked for.
     Nowhere(NameFault),
@@ -45,6 +50,7 @@ pub enum Home {
 #[derive(Clone, Debug, Drop, PartialEq, Eq, PartialOrd, Ord)]
 pub struct Key {
     pub kind: Kind,
+    /// The canonical name, by which a server knows the resource.
     pub name: Text,
     pub home: Home,
 }
@@ -60,7 +66,10 @@ pub struct Time(pub u64);
 /// The connectivity state of an endpoint, a locality, a priority or a tree.
 #[derive(Clone, Copy, Debug, PartialEq, Eq, PartialOrd, Ord)]
 pub enum State {
+    /// A connection is being made, or none was tried yet.
     Connecting,
+    /// Calls can be sent.
     Ready,
+    /// No connection can be made (TRANSIENT_FAILURE).
     Failing,
 }

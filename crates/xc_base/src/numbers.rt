@@ -15,14 +15,14 @@ pub fn read_number(text: &str) -> Option<u64>
     text.parse().ok()
 }
 
-// Whether it begins with a plus sign, or with a zero that isn't the whole text.
+/// Whether the text begins with a plus sign, or with a zero and has more bytes.
 fn is_signed_or_padded(text: &str) -> bool
     ensures { result ≡ ((slice_index text.now 0 == 43) || (nat_lt 1 (length text.now) && (slice_index text.now 0 == 48))) }
 {
     text.starts_with('+') || text.len() > 1 && text.starts_with('0')
 }
 
-/// A text has at most one number, and it is the one whose decimal text it is.
+/// The law of numbers: a text has at most one number, the one whose decimal text it is. The call does nothing.
 pub fn numbers_are_decimal()
     ensures { NumbersAreDecimal }
 {}

@@ -83,6 +83,7 @@ impl<T: Same> Same for List<T> {
     }
 }
 
+/// Whether two lists have the same members, each at its place.
 fn same_members<T: Same>(a: &[T], b: &[T]) -> bool
     ensures { IsTrue result ↔ (a.now ≡ b.now) }
 {

@@ -2,16 +2,17 @@
 ghost use Rattle.std.specs.Prelude.{◌≡◌, ◌≤◌, ◌+◌, take, IfOk, IfSome, OnOk, OnErr, IsErrOf};
 ghost use Rattle.std.specs.Io.KnownBytes.{Appends};
 ghost use Rattle.xc_base.specs.Causes.{HasCause, Rose};
-ghost use Rattle.xc_base.specs.Outside.{AppendsFront};
+ghost use Rattle.xc_base.specs.Outside.{AppendsPrefix};
 ghost use Rattle.xc_base.specs.declared.streams.ReadFault.TheVariants.{Memory};
 
 use crate::outside::{Failed, Sink, Source};
 use std::alloc::{AllocError, Global};
 
-/// Writes the whole text, in as many calls as the sink takes. After a fault a front of it is written.
+/// Writes all bytes of the text, in as many calls as the sink takes. After a fault a prefix of it is written.
+/// It fails only where the sink failed, which its count of faults tells.
 pub fn write_all<K: Sink>(sink: &mut K, text: &[u8]) -> Result<(), Failed>
-    ensures whole { OnOk result (Appends (K.held sink.old) (K.held sink.new) text.now) }
-    ensures front { OnErr result (AppendsFront (K.held sink.old) (K.held sink.new) text.now) }
+    ensures ok { OnOk result (Appends (K.held sink.old) (K.held sink.new) text.now) }
+    ensures prefix { OnErr result (AppendsPrefix (K.held sink.old) (K.held sink.new) text.now) }
     ensures cause { HasCause (K.faults sink.old) (K.faults sink.new) result }
 {
     let mut at = 0;
@@ -41,8 +42,8 @@ impl From<AllocError> for ReadFault {
     }
 }
 
-/// Reads to the end, or the first `most` bytes where there are more. It fails only where the source's
-/// count of faults rose.
+/// Reads to the end, or the first `most` bytes where there are more. `Failed` comes only where the source's
+/// count of faults rose, and `Memory` where the bytes had no room.
 pub fn read_all<S: Source>(alloc: Global, source: &mut S, most: u32) -> Result<Vec<u8>, ReadFault>
     ensures bytes { IfOk result (λ v. IfSome (S.left source.old) (λ left. v.items ≡ take most left)) }
     ensures later { S.faults source.old ≤ S.faults source.new }

@@ -53,15 +53,15 @@ impl Text {
         Ok(Text { text: Some(text) })
     }
 
-    /// The text with its ASCII letters in lower case.
-    pub fn lowered(alloc: Global, text: &str) -> Result<Text, Memory>
+    /// The text with its ASCII letters in lower case; all other bytes stay.
+    pub fn lowercase(alloc: Global, text: &str) -> Result<Text, Memory>
         ensures { IfOk result (λ t. t ≡ str_to_ascii_lowercase text.now) }
     {
         let text = lower_characters(alloc, text)?;
         Text::from_string(alloc, text)
     }
 
-    /// Its bytes.
+    /// The text itself.
     pub fn as_str(&self) -> &str
         ensures { result.now ≡ self.now }
     {
@@ -86,6 +86,7 @@ impl Text {
     }
 }
 
+/// The text with each ASCII letter in lower case.
 fn lower_characters(alloc: Global, text: &str) -> Result<String, Memory>
     ensures { IfOk result (λ s. string_bytes s ≡ encode_utf8_all (map to_ascii_lowercase (chars text.now))) }
 {
@@ -95,7 +96,7 @@ fn lower_characters(alloc: Global, text: &str) -> Result<String, Memory>
 impl Clone for Text {
     ghost is_clone = { λ s t. t ≡ s };
 
-    // The copy shares the bytes.
+    /// The copy shares the bytes.
     fn clone(&self) -> Result<Text, Memory> {
         match &self.text {
             Some(text) => {
@@ -121,7 +122,7 @@ impl Eq for Text {
     ghost laws = { nat_list_eq_equiv };
 }
 
-// Texts are ordered by their bytes.
+/// Texts are ordered by their bytes.
 impl Ord for Text {
     ghost cmp = { slice_cmp nat_cmp };
 

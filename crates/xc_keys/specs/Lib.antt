@@ -1,3 +1,3 @@
 pub mod Keys
-pub mod Laws
+pub mod KeyLaws
 pub mod Spans

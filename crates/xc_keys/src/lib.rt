@@ -3,7 +3,7 @@
 
 ghost use Rattle.std.specs.Prelude.{◌≡◌};
 ghost use Rattle.xc_keys.specs.Keys.{key_cmp};
-ghost use Rattle.xc_keys.specs.Laws.{TellsKeysApart};
+ghost use Rattle.xc_keys.specs.KeyLaws.{TellsKeysApart};
 
 use std::cmp::Ordering;
 use xc_base::Key;

@@ -1,2 +1,10 @@
-pub mod KeptLemmas
-pub mod PlainLemmas
+pub mod FinishLemmas
+pub mod KeptReferences
+pub mod MakeLemmas
+pub mod LaneLemmas
+pub mod CallStepLemmas
+pub mod BeginLemmas
+pub mod TextListLemmas
+pub mod KeptPicks
+pub mod DriveLemmas
+pub mod DrivenBook

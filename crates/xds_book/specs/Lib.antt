@@ -1,11 +1,6 @@
-pub mod Calls
-pub mod History
-pub mod Kept
-pub mod Lawful
-pub mod Names
-pub mod Plain
-pub mod Right
-pub mod Seen
-pub mod Shown
-pub mod Steps
-pub mod Streams
+pub mod BookViews
+pub mod BookEntries
+pub mod BookKept
+pub mod ReferencesKept
+pub mod PinSteps
+pub mod Publishing

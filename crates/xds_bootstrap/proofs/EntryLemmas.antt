@@ -12,10 +12,10 @@ use Rattle.serde_json.specs.Read.{read}
 use Rattle.serde_json.specs.View.{view, items_view, members_view}
 use Rattle.serde_json.specs.declared.value.Value.{Value}
 use Rattle.xds_bootstrap.specs.Document.{entries_from, entry_of, is_no_item, is_empty_list, count, document_of, entries_in, named_after, Fails}
-use Rattle.xds_bootstrap.specs.Views.{seen_members}
+use Rattle.xds_bootstrap.specs.BootViews.{seen_members}
 use Rattle.xds_bootstrap.specs.declared.bootstrap.AuthorityEntry.{AuthorityEntry}
-use Rattle.xds_bootstrap.specs.declared.fault.BootFault.{BootFault}
-use Rattle.xds_bootstrap.specs.declared.fault.BootFault.TheVariants.{NotJson, Missing, WrongKind, Memory}
+use Rattle.xds_bootstrap.specs.declared.boot_fault.BootFault.{BootFault}
+use Rattle.xds_bootstrap.specs.declared.boot_fault.BootFault.TheVariants.{NotJson, Missing, WrongKind, Memory}
 
 no_item_of : (list : List Value) → eqb (length list) 0 ≡ is_no_item (Some (items_view list))
 no_item_of [] = refl

@@ -15,9 +15,9 @@ use Rattle.serde_json.specs.Find.{get, as_object}
 use Rattle.serde_json.specs.declared.value.Value.{Value}
 use Rattle.xds_bootstrap.specs.Authorities.{AreAuthorities}
 use Rattle.xds_bootstrap.specs.Document.{◌>>=◌, own_servers, text_member, template_in, entry_in, entry_of, entries_from}
-use Rattle.xds_bootstrap.specs.Views.{seen_members}
+use Rattle.xds_bootstrap.specs.BootViews.{seen_members}
 use Rattle.xds_bootstrap.specs.declared.bootstrap.AuthorityEntry.{AuthorityEntry}
-use Rattle.xds_bootstrap.specs.declared.fault.BootFault.{BootFault}
+use Rattle.xds_bootstrap.specs.declared.boot_fault.BootFault.{BootFault}
 
 abbrev names : List AuthorityEntry → List (List ℕ)
 names entries = map (λ e. e.name) entries

@@ -7,7 +7,7 @@ use Rattle.xc_base.specs.declared.call.Node.{Node}
 use Rattle.xds_bootstrap.specs.Document.{◌>>=◌, servers_of, node_of, text_member, object_member, all_entries, bootstrap_in}
 use Rattle.xds_bootstrap.specs.declared.bootstrap.AuthorityEntry.{AuthorityEntry}
 use Rattle.xds_bootstrap.specs.declared.bootstrap.Bootstrap.{Bootstrap}
-use Rattle.xds_bootstrap.specs.declared.fault.BootFault.{BootFault}
+use Rattle.xds_bootstrap.specs.declared.boot_fault.BootFault.{BootFault}
 
 abbrev with_entries : Node → Result (List AuthorityEntry) BootFault → Result Bootstrap BootFault
 with_entries node found = found >>= λ entries. Ok record { authorities = entries; node = node }

@@ -9,8 +9,8 @@ use Rattle.serde_json.specs.Read.{read}
 use Rattle.xc_base.specs.declared.call.Node.{Node}
 use Rattle.xds_bootstrap.specs.declared.bootstrap.AuthorityEntry.{AuthorityEntry}
 use Rattle.xds_bootstrap.specs.declared.bootstrap.Bootstrap.{Bootstrap}
-use Rattle.xds_bootstrap.specs.declared.fault.BootFault.{BootFault}
-use Rattle.xds_bootstrap.specs.declared.fault.BootFault.TheVariants.{NotJson, Missing, WrongKind, Memory}
+use Rattle.xds_bootstrap.specs.declared.boot_fault.BootFault.{BootFault}
+use Rattle.xds_bootstrap.specs.declared.boot_fault.BootFault.TheVariants.{NotJson, Missing, WrongKind, Memory}
 
 infixl 10 ◌>>=◌
 abbrev pub ◌>>=◌ : {A B : Type 0} → Result A BootFault → (A → Result B BootFault) → Result B BootFault
@@ -81,15 +81,15 @@ abbrev pub default_entry : List ℕ → Option (List ℕ) → AuthorityEntry
 default_entry uri template = record { name = []; server_uri = uri; template = default_template template }
 
 -- what the names of an authority begin with
-abbrev pub front_of : List ℕ → List ℕ
-front_of authority = codes "xdstp://" ++ authority ++ codes "/"
+abbrev pub prefix_of : List ℕ → List ℕ
+prefix_of authority = codes "xdstp://" ++ authority ++ codes "/"
 
 abbrev pub template_with : List ℕ → List ℕ → Result (List ℕ) BootFault
-template_with front template = if starts_with ◌==◌ template front then Ok template else Err (WrongKind (codes "client_listener_resource_name_template"))
+template_with prefix template = if starts_with ◌==◌ template prefix then Ok template else Err (WrongKind (codes "client_listener_resource_name_template"))
 
 abbrev pub template_in : List ℕ → Option (List ℕ) → Result (List ℕ) BootFault
-template_in authority None = Ok (front_of authority ++ codes "envoy.config.listener.v3.Listener/%s")
-template_in authority (Some template) = template_with (front_of authority) template
+template_in authority None = Ok (prefix_of authority ++ codes "envoy.config.listener.v3.Listener/%s")
+template_in authority (Some template) = template_with (prefix_of authority) template
 
 -- ---- `authorities`
 

@@ -1,3 +1,3 @@
 pub mod Authorities
 pub mod Document
-pub mod Views
+pub mod BootViews

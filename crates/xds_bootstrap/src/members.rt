@@ -1,20 +1,21 @@
 //! Members of a JSON object.
 ghost use Rattle.std.specs.Prelude.{◌≡◌};
 ghost use Rattle.xds_bootstrap.specs.Document.{Gives, member_of, object_member, text_member};
-ghost use Rattle.xds_bootstrap.specs.Views.{seen_text, seen_value};
+ghost use Rattle.xds_bootstrap.specs.BootViews.{seen_text, seen_value};
 
-use crate::fault::BootFault;
+use crate::boot_fault::BootFault;
 use serde_json::Value;
 use std::alloc::Global;
 use xc_base::Text;
 
+/// A member of an object, if both are there.
 fn member<'a>(holder: Option<&'a Value>, name: &str) -> Option<&'a Value>
     ensures { seen_value result ≡ member_of (seen_value holder.entry) name.now }
 {
     holder?.get(name)
 }
 
-/// An optional member that is a text.
+/// An optional member that is a text. `WrongKind` where it is there and no text.
 #[tactic(auto, unfolding(crate::specs::Document::text_member))]
 pub fn text_member<'a>(
     alloc: Global,
@@ -32,7 +33,7 @@ pub fn text_member<'a>(
     }
 }
 
-/// An optional member that is an object.
+/// An optional member that is an object. `WrongKind` where it is there and no object.
 #[tactic(auto, unfolding(crate::specs::Document::object_member))]
 pub fn object_member<'a>(
     alloc: Global,

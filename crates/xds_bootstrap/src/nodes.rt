@@ -2,14 +2,15 @@
 ghost use Rattle.std.specs.Prelude.{◌≡◌, [], Some, unwrap_or, IfOk};
 ghost use Rattle.serde_json.specs.View.{view};
 ghost use Rattle.xds_bootstrap.specs.Document.{Gives, node_of};
-ghost use Rattle.xds_bootstrap.specs.Views.{seen_text, seen_value};
+ghost use Rattle.xds_bootstrap.specs.BootViews.{seen_text, seen_value};
 
-use crate::fault::BootFault;
+use crate::boot_fault::BootFault;
 use crate::members::{object_member, text_member};
 use serde_json::Value;
 use std::alloc::Global;
 use xc_base::{Memory, Node, Text};
 
+/// A text, or the empty one where there is none.
 fn text_or_empty(alloc: Global, text: Option<&str>) -> Result<Text, Memory>
     ensures { IfOk result (λ t. t ≡ unwrap_or (seen_text text.entry) []) }
 {
@@ -19,7 +20,7 @@ fn text_or_empty(alloc: Global, text: Option<&str>) -> Result<Text, Memory>
     }
 }
 
-/// The document's node, of which a text is empty where it isn't there.
+/// The client's node in a document, of which a text is empty where it isn't there (gRFC A27).
 #[tactic(auto, unfolding(crate::specs::Document::node_of))]
 pub fn node(alloc: Global, document: &Value) -> Result<Node, BootFault>
     ensures { Gives (λ n. n) result (node_of (Some (view document.now))) }

@@ -2,13 +2,14 @@
 ghost use Rattle.std.specs.Prelude.{◌≡◌};
 ghost use Rattle.serde_json.specs.View.{view};
 ghost use Rattle.xds_bootstrap.specs.Document.{Gives, is_empty_list, own_servers, servers_of, uri_of};
-ghost use Rattle.xds_bootstrap.specs.Views.{seen_value};
+ghost use Rattle.xds_bootstrap.specs.BootViews.{seen_value};
 
-use crate::fault::BootFault;
+use crate::boot_fault::BootFault;
 use serde_json::Value;
 use std::alloc::Global;
 use xc_base::Text;
 
+/// The address of a server, which has to be a text.
 fn uri(alloc: Global, value: Option<&Value>) -> Result<Text, BootFault>
     ensures { Gives (λ t. t) result (uri_of (seen_value value.entry)) }
 {
@@ -21,7 +22,8 @@ fn uri(alloc: Global, value: Option<&Value>) -> Result<Text, BootFault>
     }
 }
 
-/// The address of the first server of a list, which has to be there.
+/// The address of the first server of a list. `Missing` where there is no list or no server in it, and
+/// `WrongKind` where one of them is of another kind.
 #[tactic(auto, unfolding(crate::specs::Document::servers_of))]
 pub fn servers(alloc: Global, value: Option<&Value>) -> Result<Text, BootFault>
     ensures { Gives (λ t. t) result (servers_of (seen_value value.entry)) }
@@ -41,6 +43,7 @@ pub fn servers(alloc: Global, value: Option<&Value>) -> Result<Text, BootFault>
     uri(alloc, first.get("server_uri"))
 }
 
+/// Whether a value is a list without members.
 fn is_empty_list(value: &Value) -> bool
     ensures { result ≡ is_empty_list (view value.now) }
 {

@@ -11,8 +11,8 @@ use Rattle.xc_keys.proofs.SpanLemmas.{over_none, over_end, over_more, since_firs
 use Rattle.xds_config.specs.declared.value.Value.{Value as ValueOf}
 use Rattle.xds_cache.specs.declared.fate.Known.{Known}
 use Rattle.xds_cache.specs.declared.fate.Known.TheVariants.{Wanted, Value, Invalid, Absent}
-use Rattle.xds_cache.specs.Fates.{Watched, known_of, fate_at, fate_of, watched, accepted, refused, after_refusal, taken_away}
-use Rattle.xds_cache.specs.Calls.{Event, watch, unwatch, accept, refuse, delete, expire, After, Watches, Unwatches, Accepts, Refuses, TakesAway, IsWatchedSince, IsUnwatched, HasNoValue, HasNoReason, IsFate, FollowCalls}
+use Rattle.xds_cache.specs.KeptFates.{Watched, known_of, fate_at, fate_of, watched, accepted, refused, after_refusal, taken_away}
+use Rattle.xds_cache.specs.CacheCalls.{Event, watch, unwatch, accept, refuse, delete, expire, After, Watches, Unwatches, Accepts, Refuses, TakesAway, IsWatchedSince, IsUnwatched, HasNoValue, HasNoReason, IsFate, FollowCalls}
 use Rattle.xds_cache.proofs.LastLemmas.{has_none, has_first, has_more, has_back, last_first, last_more, last_back, last_top, one_last}
 
 -- ---- what bears on a value, and what on a reason

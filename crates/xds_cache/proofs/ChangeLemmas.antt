@@ -7,7 +7,7 @@ use Rattle.xc_keys.specs.Keys.{is_key}
 use Rattle.xc_keys.proofs.KeyLemmas.{same_key}
 use Rattle.xds_cache.specs.declared.fate.Known.{Known}
 use Rattle.xds_cache.specs.declared.fate.Known.TheVariants.{Wanted, Value, Invalid, Absent}
-use Rattle.xds_cache.specs.Fates.{Watched, known_of, IsLawfulAt, AllLawful, Changes, watched, settled, refused, is_value}
+use Rattle.xds_cache.specs.KeptFates.{Watched, known_of, IsLawfulAt, AllLawful, Changes, watched, settled, refused, is_value}
 
 changed_at : (b : Bool) (old new : Watched) (key other : Key) (change : Option Known → Option Known) (value : Option Known) → change (known_of old key) ≡ value →
     known_of new other ≡ cond b value (known_of old other) → known_of new other ≡ cond b (change (known_of old key)) (known_of old other)

@@ -1,7 +1,7 @@
 -- The last events of a sort, one event on.
 use Rattle.std.proofs.Common.{◌≡◌, inl, inr, List, [], ◌∷◌, ◌++◌, refl, sym, ap, subst}
 use Rattle.xc_keys.proofs.MemberLemmas.{no_member, here, there, at_first}
-use Rattle.xds_cache.specs.Calls.{Event, Has, IsLast}
+use Rattle.xds_cache.specs.CacheCalls.{Event, Has, IsLast}
 
 first_of : Event → List Event → Event
 first_of d [] = d

@@ -1,2 +1,2 @@
-pub mod Calls
-pub mod Fates
+pub mod CacheCalls
+pub mod KeptFates

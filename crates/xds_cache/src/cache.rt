@@ -2,7 +2,7 @@
 ghost use Rattle.std.specs.Prelude.{◌≡◌, ◌+◌, [], OnOk, OnErr, IsOk, unwrap_or};
 ghost use Rattle.xds_cache.specs.declared.fate.Known.TheVariants.{Wanted};
 ghost use Rattle.xds_config.specs.Values.{IsLawfulValue, kind_of};
-ghost use Rattle.xds_cache.specs.Fates.{IsLawfulAt, Changes, watched, unwatched, settled, accepted, refused, taken_away, fate_of, is_value, known_of, shown};
+ghost use Rattle.xds_cache.specs.KeptFates.{IsLawfulAt, Changes, watched, unwatched, settled, accepted, refused, taken_away, fate_of, is_value, known_of, shown};
 
 use crate::fate::{Fate, Known, reason_of};
 use std::alloc::Global;
@@ -21,7 +21,7 @@ pub struct Cache {
 }
 
 impl Model for Cache {
-    ghost use Rattle.xds_cache.specs.Fates.{Watched, AllLawful};
+    ghost use Rattle.xds_cache.specs.KeptFates.{Watched, AllLawful};
 
     ghost Value = { Watched };
 
@@ -30,7 +30,7 @@ impl Model for Cache {
     ghost invariant = { λ c. AllLawful c.known.entries };
 }
 
-// Lets go what was known of a key.
+/// Drops what was known of a key.
 fn let_go(before: Option<Known>) {
     drop(before);
 }
@@ -45,7 +45,7 @@ impl Cache {
         }
     }
 
-    /// Watches the key from now on. One that is watched keeps its fate.
+    /// Watches the key from now on. One that is watched keeps its fate. Without memory nothing changes.
     pub fn watch(&mut self, key: &Key) -> Result<(), Memory>
         ensures ok { OnOk result (Changes self.old self.new key.now watched) }
         ensures err { OnErr result (self.new ≡ self.old) }
@@ -65,8 +65,8 @@ impl Cache {
         let_go(before);
     }
 
-    // What is known of the key, to read.
-    fn lent(&self, key: &Key) -> Fate<'_>
+    /// What is known of the key, without its home.
+    fn known_fate(&self, key: &Key) -> Fate<'_>
         ensures fate { shown result ≡ unwrap_or (known_of self.now key.now) Wanted }
         ensures lawful { IsLawfulAt key.now (shown result) }
     {
@@ -76,14 +76,14 @@ impl Cache {
         }
     }
 
-    // Whether a value of the key is known.
+    /// Whether a value of the key is known.
     fn has_value(&self, key: &Key) -> bool
         ensures { result ≡ is_value (unwrap_or (known_of self.now key.now) Wanted) }
     {
-        matches!(self.lent(key), Fate::Value(_))
+        matches!(self.known_fate(key), Fate::Value(_))
     }
 
-    // Puts this in place of what is known of the key, where it is watched.
+    /// Puts this in place of what is known of the key, where it is watched.
     fn settle(&mut self, key: &Key, known: Known)
         requires { IsLawfulAt key.now known }
         ensures { Changes self.old self.new key.now (settled known) }
@@ -96,7 +96,7 @@ impl Cache {
         let_go(Some(before));
     }
 
-    /// Takes in a valid resource, where the key is watched.
+    /// Takes in a valid resource, where the key is watched. It always succeeds.
     pub fn accept(&mut self, key: &Key, value: Value) -> Result<(), Memory>
         requires lawful { IsLawfulValue value }
         requires kind { kind_of value ≡ key.now.kind }
@@ -107,7 +107,8 @@ impl Cache {
         Ok(())
     }
 
-    /// Takes in that a resource was refused, where the key is watched. A value stays.
+    /// Takes in that a resource was refused, where the key is watched: a value stays, and the reason takes the place of
+    /// all else. It always succeeds.
     pub fn refuse(&mut self, key: &Key, reason: Reason) -> Result<(), Memory>
         ensures ok { IsOk result }
         ensures change { Changes self.old self.new key.now (refused reason) }
@@ -141,7 +142,7 @@ impl Cache {
     {
         steps.tick();
         match key.home {
-            Home::At(_) => self.lent(key),
+            Home::At(_) => self.known_fate(key),
             Home::Nowhere(fault) => Fate::Invalid(reason_of(fault)),
         }
     }

@@ -1,12 +1,12 @@
 //! Fates of keys.
 ghost use Rattle.std.specs.Prelude.{◌≡◌};
-ghost use Rattle.xds_cache.specs.Fates.{reason_of, shown};
+ghost use Rattle.xds_cache.specs.KeptFates.{reason_of, shown};
 
 use xc_base::{NameFault, Reason};
 use xds_config::Value;
 
 /// What is known of a watched key.
-#[derive(Debug, Drop)]
+#[derive(Drop)]
 pub enum Known {
     /// Nothing yet.
     Wanted,
@@ -19,7 +19,7 @@ pub enum Known {
 }
 
 impl Known {
-    /// The same, to read.
+    /// The same, lent.
     pub fn fate(&self) -> Fate<'_>
         ensures { shown result ≡ self.now }
     {
@@ -33,7 +33,7 @@ impl Known {
 }
 
 /// The fate of a key, lent by the cache.
-#[derive(Clone, Copy, Debug)]
+#[derive(Clone, Copy)]
 pub enum Fate<'a> {
     /// Nothing is known of it.
     Wanted,
@@ -45,7 +45,7 @@ pub enum Fate<'a> {
     Absent,
 }
 
-/// The reason for which a name without a home is refused.
+/// The reason for which a name without a home is refused (gRFC A47).
 pub fn reason_of(fault: NameFault) -> &'static Reason
     ensures { result.now ≡ reason_of fault }
 {

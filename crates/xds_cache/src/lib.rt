@@ -4,12 +4,9 @@
 #![tactic(auto)]
 
 pub mod cache;
+pub mod cache_laws;
 pub mod fate;
-pub mod laws;
 
 pub use cache::Cache;
+pub use cache_laws::fates_follow_calls;
 pub use fate::{Fate, Known};
-pub use laws::fates_follow_calls;
-
-#[cfg(test)]
-mod tests;

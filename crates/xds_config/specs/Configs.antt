@@ -7,7 +7,7 @@ use Rattle.std.specs.declared.cmp.Ordering.TheVariants.{Less}
 use Rattle.xds_config.specs.declared.config.Front.{Front}
 use Rattle.xds_config.specs.declared.config.Leaves.{Leaves}
 use Rattle.xds_config.specs.declared.config.Config.{Config}
-use Rattle.xds_config.specs.Routes.{IsLawfulRouteValue, host_clusters}
+use Rattle.xds_config.specs.RouteValues.{IsLawfulRouteValue, host_clusters}
 use Rattle.xds_config.specs.Endpoints.{IsLawfulEndpoints}
 
 -- the clusters that the virtual host of a front names

@@ -2,5 +2,5 @@ pub mod Clusters
 pub mod Configs
 pub mod Endpoints
 pub mod Listeners
-pub mod Routes
+pub mod RouteValues
 pub mod Values

@@ -3,7 +3,7 @@ use Rattle.std.specs.Prelude.{◌≢◌, []}
 use Rattle.xds_config.specs.declared.listener_values.ListenerValue.{ListenerValue}
 use Rattle.xds_config.specs.declared.listener_values.RoutesFrom.{RoutesFrom}
 use Rattle.xds_config.specs.declared.listener_values.RoutesFrom.TheVariants.{Inline, Named}
-use Rattle.xds_config.specs.Routes.{IsLawfulRouteValue}
+use Rattle.xds_config.specs.RouteValues.{IsLawfulRouteValue}
 
 -- routes that stand in a listener may have no name
 abbrev pub IsLawfulFrom : RoutesFrom → Type 0

@@ -5,7 +5,7 @@ use Rattle.xc_base.specs.declared.names.Kind.TheVariants.{Listener as ListenerKi
 use Rattle.xds_config.specs.declared.value.Value.{Value}
 use Rattle.xds_config.specs.declared.value.Value.TheVariants.{Listener, Route, Cluster, Endpoint}
 use Rattle.xds_config.specs.Listeners.{IsLawfulListener}
-use Rattle.xds_config.specs.Routes.{IsLawfulRouteValue}
+use Rattle.xds_config.specs.RouteValues.{IsLawfulRouteValue}
 use Rattle.xds_config.specs.Clusters.{IsLawfulCluster}
 use Rattle.xds_config.specs.Endpoints.{IsLawfulEndpoints}
 

@@ -1,7 +1,7 @@
-//! The value of a Cluster resource.
+//! The value of a Cluster resource (gRFC A27, A37).
 use xc_base::{List, Same, Text};
 
-/// A cluster.
+/// A cluster, under its canonical name.
 #[derive(Debug, Drop, PartialEq, Eq)]
 pub struct ClusterValue {
     pub name: Text,
@@ -11,10 +11,10 @@ pub struct ClusterValue {
 /// What a cluster is.
 #[derive(Debug, Drop, PartialEq, Eq)]
 pub enum Shape {
-    /// The endpoints of an Endpoint resource, which has this name, or the cluster's own where it is
-    /// empty.
+    /// It has the endpoints of the Endpoint resource of this name, or of the cluster's own name where this
+    /// one is empty.
     Eds { service: Text },
-    /// Other clusters, the preferred ones first.
+    /// It stands for other clusters, the preferred ones first.
     Aggregate { clusters: List<Text> },
 }
 

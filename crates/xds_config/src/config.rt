@@ -1,4 +1,4 @@
-//! The configuration of a channel: its routes, and its clusters with their endpoints.
+//! The configuration of a channel (gRFC A74): its routes, and its clusters with their endpoints.
 ghost use Rattle.std.specs.Prelude.{◌≡◌, ◌<◌, ◌^◌, ◌↔◌, ◌≢◌, Some, length, slice_get, option_map, bytes_eq, position, All, IsNone, IfSome};
 ghost use Rattle.xds_config.specs.Configs.{cluster_place};
 
@@ -6,8 +6,8 @@ use crate::endpoint_values::EndpointValue;
 use crate::route_values::RouteValue;
 use xc_base::{List, Memory, Reason, Same, Shared, Text};
 
-/// The routes of a channel: the listener's name, a route configuration, and the place of the virtual
-/// host in it, from 0.
+/// The routes of a channel: the name of its listener, a route configuration, and the place of the
+/// channel's virtual host in that configuration, from 0.
 #[derive(Debug, Drop, PartialEq, Eq)]
 pub struct Front {
     pub listener: Text,
@@ -22,8 +22,8 @@ pub struct Leaf {
     pub state: Result<Shared<EndpointValue>, Reason>,
 }
 
-/// What a cluster stands for: itself, or where it is an aggregate the leaves below it, the preferred
-/// ones first.
+/// What a cluster stands for: itself, or, where it is an aggregate, the leaves below it, the preferred
+/// ones first (gRFC A37).
 #[derive(Debug, Drop, PartialEq, Eq)]
 pub struct Leaves {
     pub aggregate: bool,
@@ -46,8 +46,8 @@ pub struct Config {
 }
 
 impl Config {
-    /// The place of the cluster of a name, from 0. None exactly where no cluster has the name. It takes
-    /// no memory.
+    /// The place of the first cluster of a name, from 0. None exactly where no cluster has the name. It
+    /// takes no memory.
     pub fn find(&self, name: &Text) -> Option<u32>
         requires few { length self.now.clusters < 2 ^ 31 }
         ensures place { result ≡ cluster_place self.now name.now }
@@ -61,6 +61,7 @@ impl Config {
     }
 }
 
+/// The place of the first cluster of a name, from 0.
 fn place_of(clusters: &[Shared<ClusterEntry>], name: &Text) -> Option<usize>
     ensures { result ≡ position (λ c. bytes_eq c.name name.now) clusters.now }
 {

@@ -1,9 +1,9 @@
-//! The value of an Endpoint resource.
+//! The value of an Endpoint resource (gRFC A27, A56).
 use weight_pick::DropRule;
 use xc_base::{Address, List, Same, Text};
 
-/// The endpoints of a cluster by their localities, and the rules by which calls are dropped.
-/// Localities stand in ascending priority.
+/// The endpoints of a cluster by their localities, and the rules by which calls are dropped, in the
+/// order in which they are tried. Localities stand in ascending priority.
 #[derive(Debug, Drop, PartialEq, Eq)]
 pub struct EndpointValue {
     pub name: Text,
@@ -11,7 +11,8 @@ pub struct EndpointValue {
     pub drops: List<DropRule>,
 }
 
-/// A locality with its endpoints, of which an address may stand there twice.
+/// A locality with its endpoints. Priority 0 is the preferred one, and the weight is at least 1. An
+/// address may stand there twice.
 #[derive(Debug, Drop, PartialEq, Eq)]
 pub struct Locality {
     pub id: LocalityId,
@@ -20,7 +21,7 @@ pub struct Locality {
     pub addresses: List<Address>,
 }
 
-/// The name of a locality.
+/// The name of a locality, of which each part may be empty.
 #[derive(Clone, Debug, Drop, PartialEq, Eq)]
 pub struct LocalityId {
     pub region: Text,

@@ -15,6 +15,3 @@ pub use endpoint_values::{EndpointValue, Locality, LocalityId};
 pub use listener_values::{ListenerValue, RoutesFrom};
 pub use route_values::{Action, Host, PathTest, Route, RouteValue, Weighted};
 pub use value::Value;
-
-#[cfg(test)]
-mod tests;

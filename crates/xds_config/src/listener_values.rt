@@ -1,8 +1,8 @@
-//! The value of a Listener resource.
+//! The value of a Listener resource (gRFC A27).
 use crate::route_values::RouteValue;
 use xc_base::{Same, Shared, Text};
 
-/// A listener of a client: where its routes come from.
+/// A listener of a client, under its canonical name.
 #[derive(Debug, Drop, PartialEq, Eq)]
 pub struct ListenerValue {
     pub name: Text,

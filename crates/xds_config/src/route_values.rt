@@ -1,4 +1,4 @@
-//! The value of a Route resource: virtual hosts with their routes.
+//! The value of a Route resource: virtual hosts with their routes (gRFC A28).
 use header_match::{HeaderRule, Pattern};
 use weight_pick::Fraction;
 use xc_base::{List, Same, Text};
@@ -10,7 +10,7 @@ pub struct RouteValue {
     pub hosts: List<Host>,
 }
 
-/// A virtual host: the routes for the authorities that one of its domains meets.
+/// A virtual host: the routes of the channels whose host meets one of its domains.
 #[derive(Debug, Drop, PartialEq, Eq)]
 pub struct Host {
     pub name: Text,
@@ -19,13 +19,13 @@ pub struct Host {
 }
 
 /// A route: the calls that it is for, and where they go. Its place, from 0, is the one among all
-/// routes of its virtual host in the resource, those that are left out counted.
+/// routes of its virtual host in the resource, where those that the check leaves out are counted, too.
 #[derive(Debug, Drop, PartialEq, Eq)]
 pub struct Route {
     pub place: u32,
     pub path: PathTest,
     pub headers: List<HeaderRule>,
-    /// Of the calls that path and headers meet, those that are taken; none stands for all.
+    /// The fraction that is taken of the calls whose path and headers are met; none stands for all.
     pub fraction: Option<Fraction>,
     pub action: Action,
 }
@@ -50,7 +50,7 @@ pub enum Action {
     Nothing,
 }
 
-/// A cluster with its weight.
+/// A cluster with its weight, which is at most 4,294,967,295 and may be 0.
 #[derive(Debug, Drop, PartialEq, Eq)]
 pub struct Weighted {
     pub cluster: Text,

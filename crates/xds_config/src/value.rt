@@ -5,7 +5,7 @@ use crate::listener_values::ListenerValue;
 use crate::route_values::RouteValue;
 use xc_base::{Memory, Same, Shared};
 
-/// The value of a resource. Copies share it.
+/// The value of a resource that passed its checks. Copies share it.
 #[derive(Debug, Drop, PartialEq, Eq)]
 pub enum Value {
     Listener(Shared<ListenerValue>),

@@ -15,52 +15,52 @@ use Rattle.call_journal.specs.declared.reply.DriverReply.{DriverReply}
 use Rattle.call_journal.specs.declared.reply.Sent.{Sent}
 use Rattle.call_journal.specs.declared.entry.What.{What}
 use Rattle.call_journal.specs.declared.entry.Entry.{Entry}
-use Rattle.dep_manager.specs.Orders.{Name}
+use Rattle.config_assembly.specs.Orders.{Name}
 use Rattle.xds_history.specs.Words.{same_kind, same_authority, all_kinds}
 use Rattle.xds_history.specs.Setting.{Setting}
-use Rattle.xds_history.specs.declared.streams.Turn.{Turn}
-use Rattle.xds_history.specs.declared.streams.Turn.TheVariants.{Opens, Ends, Stays}
+use Rattle.xds_history.specs.declared.turns.Turn.{Turn}
+use Rattle.xds_history.specs.declared.turns.Turn.TheVariants.{Opens, Ends, Stays}
 use Rattle.xds_history.specs.Streams.{turn_by, turned, stream, before_turn, asked_in, asked}
 use Rattle.xds_history.specs.Responses.{Came, answered, told_of}
 use Rattle.xds_history.specs.Requests.{watched_names, same_names, is_due, request_for, request_due, is_silent, with_node, sent_to, requests_on, requests_to, requests}
 use Rattle.xds_history.specs.declared.page.Watched.{Watched}
 use Rattle.xds_history.specs.Pages.{came}
-use Rattle.xds_history.specs.Laws.{is_report, is_call}
+use Rattle.xds_history.specs.HistoryLaws.{is_report, is_call}
 use Rattle.xds_history.proofs.LawProofs.{entry_of}
 use Rattle.xds_history.proofs.WatchLemmas.{none_answered, none_turned}
 
 -- ---- the names of the first request of a kind
 
-abbrev names_for : Kind → List Request → Option (List Name)
+abbrev pub names_for : Kind → List Request → Option (List Name)
 names_for kind rs = option_map (λ r. r.names) (find (λ r. same_kind r.kind kind) rs)
 
 -- whether a request is for this authority and kind
-abbrev is_for : Authority → Kind → Sent → Bool
+abbrev pub is_for : Authority → Kind → Sent → Bool
 is_for a kind x = same_authority a x.authority && same_kind x.request.kind kind
 
-abbrev names_of : Option Sent → Option (List Name)
+abbrev pub names_of : Option Sent → Option (List Name)
 names_of o = option_map (λ x. x.request.names) o
 
-not_theirs : (a b : Authority) (kind : Kind) (rs : List Request) → same_authority a b ≡ false → find (is_for a kind) (map (sent_to b) rs) ≡ None
+pub not_theirs : (a b : Authority) (kind : Kind) (rs : List Request) → same_authority a b ≡ false → find (is_for a kind) (map (sent_to b) rs) ≡ None
 not_theirs a b kind [] other = refl
 not_theirs a b kind (r ∷ rs) other =
     subst (λ t. cond (t && same_kind r.kind kind) (Some (sent_to b r)) (find (is_for a kind) (map (sent_to b) rs)) ≡ None) (sym other) (not_theirs a b kind rs other)
 
-theirs_at : (b : Bool) (a : Authority) (r : Request) (rest : Option Sent) (more : Option Request) → names_of rest ≡ option_map (λ r. r.names) more → names_of (cond b (Some (sent_to a r)) rest) ≡ option_map (λ r. r.names) (cond b (Some r) more)
+pub theirs_at : (b : Bool) (a : Authority) (r : Request) (rest : Option Sent) (more : Option Request) → names_of rest ≡ option_map (λ r. r.names) more → names_of (cond b (Some (sent_to a r)) rest) ≡ option_map (λ r. r.names) (cond b (Some r) more)
 theirs_at true a r rest more same = refl
 theirs_at false a r rest more same = same
 
-theirs : (a : Authority) (kind : Kind) (rs : List Request) → names_of (find (is_for a kind) (map (sent_to a) rs)) ≡ names_for kind rs
+pub theirs : (a : Authority) (kind : Kind) (rs : List Request) → names_of (find (is_for a kind) (map (sent_to a) rs)) ≡ names_for kind rs
 theirs a kind [] = refl
 theirs a kind (r ∷ rs) =
     subst (λ t. names_of (cond (t && same_kind r.kind kind) (Some (sent_to a r)) (find (is_for a kind) (map (sent_to a) rs))) ≡ names_for kind (r ∷ rs)) (sym (eq-eqb a.0 a.0 refl))
     (theirs_at (same_kind r.kind kind) a r (find (is_for a kind) (map (sent_to a) rs)) (find (λ r. same_kind r.kind kind) rs) (theirs a kind rs))
 
-node_at : (s : Setting) (b : Bool) (r : Request) (rest : Option Request) → option_map (λ r. r.names) (cond b (Some (record r { node = Some s.node })) rest) ≡ option_map (λ r. r.names) (cond b (Some r) rest)
+pub node_at : (s : Setting) (b : Bool) (r : Request) (rest : Option Request) → option_map (λ r. r.names) (cond b (Some (record r { node = Some s.node })) rest) ≡ option_map (λ r. r.names) (cond b (Some r) rest)
 node_at s true r rest = refl
 node_at s false r rest = refl
 
-with_node_kept : (s : Setting) (first : Bool) (kind : Kind) (rs : List Request) → names_for kind (with_node s first rs) ≡ names_for kind rs
+pub with_node_kept : (s : Setting) (first : Bool) (kind : Kind) (rs : List Request) → names_for kind (with_node s first rs) ≡ names_for kind rs
 with_node_kept s first kind [] = refl
 with_node_kept s true kind (r ∷ rs) = node_at s (same_kind r.kind kind) r (find (λ r. same_kind r.kind kind) rs)
 with_node_kept s false kind (r ∷ rs) = refl
@@ -68,22 +68,22 @@ with_node_kept s false kind (r ∷ rs) = refl
 -- ---- the requests of a stream, kind by kind
 
 module _ (due : Kind → Bool) (made : Kind → Request) (its_kind : (kind : Kind) → (made kind).kind ≡ kind) where
-  abbrev made_if : Kind → Option Request
+  abbrev pub made_if : Kind → Option Request
   made_if kind = if due kind then Some (made kind) else None
 
-  other_kind : (kind k : Kind) (b : Bool) (rest : List Request) → same_kind k kind ≡ false → names_for kind (cons_option (if b then Some (made k) else None) rest) ≡ names_for kind rest
+  pub other_kind : (kind k : Kind) (b : Bool) (rest : List Request) → same_kind k kind ≡ false → names_for kind (cons_option (if b then Some (made k) else None) rest) ≡ names_for kind rest
   other_kind kind k true rest other =
       subst (λ t. option_map (λ r. r.names) (cond t (Some (made k)) (find (λ r. same_kind r.kind kind) rest)) ≡ names_for kind rest)
       (sym (ap (λ x. same_kind x kind) (its_kind k) ∙ other)) refl
   other_kind kind k false rest other = refl
 
-  own_kind : (kind : Kind) (b : Bool) (rest : List Request) → same_kind kind kind ≡ true → names_for kind rest ≡ None → names_for kind (cons_option (if b then Some (made kind) else None) rest) ≡ (if b then Some (made kind).names else None)
+  pub own_kind : (kind : Kind) (b : Bool) (rest : List Request) → same_kind kind kind ≡ true → names_for kind rest ≡ None → names_for kind (cons_option (if b then Some (made kind) else None) rest) ≡ (if b then Some (made kind).names else None)
   own_kind kind true rest own none =
       subst (λ t. option_map (λ r. r.names) (cond t (Some (made kind)) (find (λ r. same_kind r.kind kind) rest)) ≡ Some (made kind).names)
       (sym (ap (λ x. same_kind x kind) (its_kind kind) ∙ own)) refl
   own_kind kind false rest own none = none
 
-  of_kind : (kind : Kind) → names_for kind (filter_map made_if all_kinds) ≡ (if due kind then Some (made kind).names else None)
+  pub of_kind : (kind : Kind) → names_for kind (filter_map made_if all_kinds) ≡ (if due kind then Some (made kind).names else None)
   of_kind Kind.Listener =
       own_kind Kind.Listener (due Kind.Listener) (filter_map made_if (Kind.Route ∷ Kind.Cluster ∷ Kind.Endpoint ∷ [])) refl
       (other_kind Kind.Listener Kind.Route (due Kind.Route) (filter_map made_if (Kind.Cluster ∷ Kind.Endpoint ∷ [])) refl
@@ -142,14 +142,14 @@ module _ (p : Sent → Bool) (f : ℕ → List Sent) (a : ℕ) (others : (place 
   found [] has = absurd (no_member a has)
   found (place ∷ places) has = found_by (place == a) place places refl (found places) has
 
-other_place : (s : Setting) (c : Came) (past : List Entry) (watched : List Watched) (a : Authority) (kind : Kind) (place : ℕ) (o : Option (List Entry)) → (place ≡ a.0 → ⊥) → find (is_for a kind) (requests_on s c past watched (record { 0 = place }) o) ≡ None
+pub other_place : (s : Setting) (c : Came) (past : List Entry) (watched : List Watched) (a : Authority) (kind : Kind) (place : ℕ) (o : Option (List Entry)) → (place ≡ a.0 → ⊥) → find (is_for a kind) (requests_on s c past watched (record { 0 = place }) o) ≡ None
 other_place s c past watched a kind place None other = refl
 other_place s c past watched a kind place (Some before) other =
     not_theirs a (record { 0 = place }) kind (with_node s (is_silent (record { 0 = place }) before) (filter_map (request_due s c past watched before (record { 0 = place })) all_kinds))
     (ne_eqb a.0 place (λ e. other (sym e)))
 
 -- the names for which the requests of an entry ask an authority
-asked_now : (s : Setting) (c : Came) (past : List Entry) (watched : List Watched) (a : Authority) (kind : Kind) (before : List Entry) → Contains (range_with_len 0 s.authorities) a.0 → before_turn (turn_by a c.event c.verdict) (stream a past) ≡ Some before →
+pub asked_now : (s : Setting) (c : Came) (past : List Entry) (watched : List Watched) (a : Authority) (kind : Kind) (before : List Entry) → Contains (range_with_len 0 s.authorities) a.0 → before_turn (turn_by a c.event c.verdict) (stream a past) ≡ Some before →
     names_of (find (is_for a kind) (requests s c past watched)) ≡ (if is_due s c before a kind (watched_names a kind watched) then Some (watched_names a kind watched) else None)
 asked_now s c past watched a kind before has up =
     let rs = filter_map (request_due s c past watched before a) all_kinds in
@@ -166,21 +166,21 @@ abbrev pub AreAsked : Setting → List Entry → List Watched → Type 0
 AreAsked s past watched = (a : Authority) → Contains (range_with_len 0 s.authorities) a.0 → (kind : Kind) (entries : List Entry) → stream a past ≡ Some entries →
     same_names (watched_names a kind watched) (unwrap_or (asked a kind entries) []) ≡ true
 
-on_stream : (t : Turn) (o : Option (List Entry)) (e : Entry) (entries : List Entry) → turned t e o ≡ Some entries → (before : List Entry) × (before_turn t o ≡ Some before) × (entries ≡ e ∷ before)
+pub on_stream : (t : Turn) (o : Option (List Entry)) (e : Entry) (entries : List Entry) → turned t e o ≡ Some entries → (before : List Entry) × (before_turn t o ≡ Some before) × (entries ≡ e ∷ before)
 on_stream Opens o e entries is = ([], refl, sym (cc is))
 on_stream Ends o e entries is = absurd (cc is)
 on_stream Stays None e entries is = absurd (cc is)
 on_stream Stays (Some xs) e entries is = (xs, refl, sym (cc is))
 
-same_themselves : (names : List Name) → same_names names names ≡ true
+pub same_themselves : (names : List Name) → same_names names names ≡ true
 same_themselves names = (slice_eq-Decides bytes_eq-Decides names names (same_names names names) refl).1 refl
 
-settled_by : (b same : Bool) → (b || not same) ≡ false → same ≡ true
+pub settled_by : (b same : Bool) → (b || not same) ≡ false → same ≡ true
 settled_by true same is = absurd (cc is)
 settled_by false true is = refl
 settled_by false false is = absurd (cc is)
 
-settled_at : (due b : Bool) (names : List Name) (now last : Option (List Name)) → (b || not (same_names names (unwrap_or last []))) ≡ due → now ≡ (if due then Some names else None) → same_names names (unwrap_or (option_or now last) []) ≡ true
+pub settled_at : (due b : Bool) (names : List Name) (now last : Option (List Name)) → (b || not (same_names names (unwrap_or last []))) ≡ due → now ≡ (if due then Some names else None) → same_names names (unwrap_or (option_or now last) []) ≡ true
 settled_at true b names now last is asked = subst (λ o. same_names names (unwrap_or (option_or o last) []) ≡ true) (sym asked) (same_themselves names)
 settled_at false b names now last is asked = subst (λ o. same_names names (unwrap_or (option_or o last) []) ≡ true) (sym asked) (settled_by b (same_names names (unwrap_or last [])) is)
 
@@ -201,18 +201,18 @@ asked_still s past actor line (What.Caller event reply) watched is are a has kin
 
 -- ---- a report asks for nothing
 
-nothing_due : (s : Setting) (event : DriverEvent) (reply : DriverReply) (before : List Entry) (a : Authority) (kind : Kind) (names : List Name) → IsTrue (is_report event) → same_names names (unwrap_or (asked a kind before) []) ≡ true → is_due s (came event reply) before a kind names ≡ false
+pub nothing_due : (s : Setting) (event : DriverEvent) (reply : DriverReply) (before : List Entry) (a : Authority) (kind : Kind) (names : List Name) → IsTrue (is_report event) → same_names names (unwrap_or (asked a kind before) []) ≡ true → is_due s (came event reply) before a kind names ≡ false
 nothing_due s event reply before a kind names report same =
     ap (λ o. is_some (told_of a kind o) || not (same_names names (unwrap_or (asked a kind before) []))) (none_answered s event reply report) ∙ ap not same
 
-none_of : (f : Kind → Option Request) (kinds : List Kind) → ((kind : Kind) → f kind ≡ None) → filter_map f kinds ≡ []
+pub none_of : (f : Kind → Option Request) (kinds : List Kind) → ((kind : Kind) → f kind ≡ None) → filter_map f kinds ≡ []
 none_of f [] none = refl
 none_of f (kind ∷ kinds) none = ap (λ o. cons_option o (filter_map f kinds)) (none kind) ∙ none_of f kinds none
 
-none_due : (s : Setting) (past : List Entry) (event : DriverEvent) (reply : DriverReply) (watched : List Watched) (before : List Entry) (a : Authority) (kind : Kind) → is_due s (came event reply) before a kind (watched_names a kind watched) ≡ false → request_due s (came event reply) past watched before a kind ≡ None
+pub none_due : (s : Setting) (past : List Entry) (event : DriverEvent) (reply : DriverReply) (watched : List Watched) (before : List Entry) (a : Authority) (kind : Kind) → is_due s (came event reply) before a kind (watched_names a kind watched) ≡ false → request_due s (came event reply) past watched before a kind ≡ None
 none_due s past event reply watched before a kind is = ap (λ b. if b then Some (request_for s (came event reply) past before a kind (watched_names a kind watched)) else None) is
 
-none_on : (s : Setting) (past : List Entry) (event : DriverEvent) (reply : DriverReply) (watched : List Watched) (a : Authority) (o : Option (List Entry)) → IsTrue (is_report event) →
+pub none_on : (s : Setting) (past : List Entry) (event : DriverEvent) (reply : DriverReply) (watched : List Watched) (a : Authority) (o : Option (List Entry)) → IsTrue (is_report event) →
     ((kind : Kind) (entries : List Entry) → o ≡ Some entries → same_names (watched_names a kind watched) (unwrap_or (asked a kind entries) []) ≡ true) → requests_on s (came event reply) past watched a o ≡ []
 none_on s past event reply watched a None report are = refl
 none_on s past event reply watched a (Some before) report are =
@@ -220,7 +220,7 @@ none_on s past event reply watched a (Some before) report are =
     (none_of (request_due s (came event reply) past watched before a) all_kinds
     (λ kind. none_due s past event reply watched before a kind (nothing_due s event reply before a kind (watched_names a kind watched) report (are kind before refl))))
 
-none_joined : (f : ℕ → List Sent) (places : List ℕ) → ((place : ℕ) → Contains places place → f place ≡ []) → flat_map f places ≡ []
+pub none_joined : (f : ℕ → List Sent) (places : List ℕ) → ((place : ℕ) → Contains places place → f place ≡ []) → flat_map f places ≡ []
 none_joined f [] none = refl
 none_joined f (place ∷ places) none = ap (λ xs. xs ++ flat_map f places) (none place (here place places)) ∙ none_joined f places (λ n has. none n (there place places n has))
 

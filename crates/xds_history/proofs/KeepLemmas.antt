@@ -14,7 +14,7 @@ use Rattle.xds_config.specs.declared.config.Front.{Front}
 use Rattle.xds_config.specs.declared.config.Config.{Config}
 use Rattle.xds_config.specs.Configs.{front_clusters}
 use Rattle.route_match.specs.declared.answer.RouteAnswer.{RouteAnswer}
-use Rattle.route_match.specs.Clusters.{answer_cluster}
+use Rattle.route_match.specs.NamedClusters.{answer_cluster}
 use Rattle.route_match.specs.Routes.{route}
 use Rattle.route_match.proofs.ClusterLemmas.{cluster_named}
 use Rattle.cluster_tree.specs.declared.snapshot.Snapshot.{Snapshot}
@@ -24,8 +24,8 @@ use Rattle.call_journal.specs.declared.reply.DriverReply.{DriverReply}
 use Rattle.call_journal.specs.declared.reply.CallerReply.{CallerReply}
 use Rattle.call_journal.specs.declared.entry.What.{What}
 use Rattle.call_journal.specs.declared.entry.Entry.{Entry}
-use Rattle.dep_manager.specs.Orders.{Name, name_cmp}
-use Rattle.dep_manager.specs.Front.{names_of_front}
+use Rattle.config_assembly.specs.Orders.{Name, name_cmp}
+use Rattle.config_assembly.specs.Front.{names_of_front}
 use Rattle.xds_history.specs.Words.{first_some}
 use Rattle.xds_history.specs.declared.page.Page.{Page}
 use Rattle.xds_history.specs.declared.page.Watched.{Watched}
@@ -36,25 +36,25 @@ use Rattle.xds_history.specs.Trees.{Present}
 use Rattle.xds_history.specs.Pickers.{views}
 use Rattle.xds_history.specs.Pages.{page_with_trees, caller_page}
 use Rattle.xds_history.specs.Right.{IsNumber, Shown, shown, standing, pin_reply, hold_reply, caller_reply}
-use Rattle.xds_history.specs.Laws.{HasCluster, LatestHas}
+use Rattle.xds_history.specs.HistoryLaws.{HasCluster, LatestHas}
 use Rattle.xds_history.proofs.LawProofs.{entry_of}
-use Rattle.dep_manager.proofs.Members.{in_joined, from_joined, from_option, in_sorted, from_sorted}
+use Rattle.config_assembly.proofs.Members.{in_joined, from_joined, from_option, in_sorted, from_sorted}
 
 -- ---- what holds after each entry
 
 -- the pinned snapshot stands, and the latest one has the clusters that its host names
-abbrev IsPinKept : List Page → ℕ → Option Snapshot → Type 0
+abbrev pub IsPinKept : List Page → ℕ → Option Snapshot → Type 0
 IsPinKept ps number last = (x : Snapshot) × (snapshot_at number ps ≡ Some x) × ((name : Name) → Contains (names_in x) name → LatestHas last name)
 
-abbrev IsAtMost : ℕ → Option Snapshot → Type 0
+abbrev pub IsAtMost : ℕ → Option Snapshot → Type 0
 IsAtMost number None = ⊥
 IsAtMost number (Some last) = number ≤ last.number
 
-abbrev IsShownIn : Config → Option Snapshot → Type 0
+abbrev pub IsShownIn : Config → Option Snapshot → Type 0
 IsShownIn config None = ⊥
 IsShownIn config (Some last) = config ≡ last.config
 
-abbrev HasHosts : Option Snapshot → Type 0
+abbrev pub HasHosts : Option Snapshot → Type 0
 HasHosts None = Unit {0}
 HasHosts (Some last) = (name : Name) → Contains (names_in last) name → HasCluster last name
 
@@ -82,7 +82,7 @@ from_pin ps kept id (Some number) name is has =
     let (x, at, keeps) = (kept.pins id number is).1 in
     keeps name (subst (λ o. Contains (option_map_or names_in o []) name) at has)
 
-from_call : (ps : List Page) → IsKept ps → (id : CallId) (name : Name) → Contains (refers_to ps id) name → LatestHas (latest ps) name
+pub from_call : (ps : List Page) → IsKept ps → (id : CallId) (name : Name) → Contains (refers_to ps id) name → LatestHas (latest ps) name
 from_call ps kept id name has =
     elim (Contains-append_cases (option_to_list (held ps id)) (option_map_or names_in (option_and_then (λ number. snapshot_at number ps) (pinned ps id)) []) name has) [
       | inl holds ↦ (kept.holds id name (from_option (held ps id) name holds)).1
@@ -189,7 +189,7 @@ stays_all ps config kept is name has =
 
 -- ---- a caller's entry
 
-same_id : (a b : CallId) → a.0 ≡ b.0 → a ≡ b
+pub same_id : (a b : CallId) → a.0 ≡ b.0 → a ≡ b
 same_id a b is = let make : ℕ → CallId = λ n. record { 0 = n } in ap make is
 
 -- ---- a pin
@@ -203,7 +203,7 @@ found_at (Some y) ps x more is =
     let here : option_or (if x.number == x.number then Some x else None) (snapshot_at x.number ps) ≡ Some x = subst (λ b. option_or (if b then Some x else None) (snapshot_at x.number ps) ≡ Some x) (sym test) refl in
     subst (λ (z : Snapshot). option_or (if z.number == x.number then Some z else None) (snapshot_at x.number ps) ≡ Some x) (sym same) here
 
-latest_found : (ps : List Page) (x : Snapshot) → latest ps ≡ Some x → snapshot_at x.number ps ≡ Some x
+pub latest_found : (ps : List Page) (x : Snapshot) → latest ps ≡ Some x → snapshot_at x.number ps ≡ Some x
 latest_found [] x is = absurd (cc is)
 latest_found (p ∷ ps) x is = found_at p.snapshot ps x (latest_found ps x) is
 

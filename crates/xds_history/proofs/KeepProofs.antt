@@ -10,11 +10,11 @@ use Rattle.call_journal.specs.declared.event.DriverEvent.{DriverEvent}
 use Rattle.call_journal.specs.declared.reply.DriverReply.{DriverReply}
 use Rattle.call_journal.specs.declared.entry.What.{What}
 use Rattle.call_journal.specs.declared.entry.Entry.{Entry}
-use Rattle.dep_manager.specs.Orders.{sorted, name_cmp}
-use Rattle.dep_manager.specs.Resources.{Resources}
-use Rattle.dep_manager.specs.Front.{names_of_front}
-use Rattle.dep_manager.specs.Reach.{reach, missing}
-use Rattle.dep_manager.specs.Configs.{whole_config}
+use Rattle.config_assembly.specs.Orders.{sorted, name_cmp}
+use Rattle.config_assembly.specs.ReachedResources.{Resources}
+use Rattle.config_assembly.specs.Front.{names_of_front}
+use Rattle.config_assembly.specs.Reach.{reach, missing}
+use Rattle.config_assembly.specs.WholeConfigs.{whole_config}
 use Rattle.xds_history.specs.Setting.{Setting, known_as}
 use Rattle.xds_history.specs.declared.page.Page.{Page}
 use Rattle.xds_history.specs.declared.page.Watched.{Watched}
@@ -25,9 +25,9 @@ use Rattle.xds_history.specs.References.{references}
 use Rattle.xds_history.specs.Trees.{Present, trees_after}
 use Rattle.xds_history.specs.Pages.{pages, page_of, came, present_after, config_after, snapshot_of}
 use Rattle.xds_history.specs.Right.{Right, IsReply}
-use Rattle.xds_history.specs.Laws.{LatestHasReferences, PublishedHasHeld, PublishedHasPinned, WholeHasNoOthers, is_whole, published}
+use Rattle.xds_history.specs.HistoryLaws.{LatestHasReferences, PublishedHasHeld, PublishedHasPinned, WholeHasNoOthers, is_whole, published}
 use Rattle.xds_history.proofs.LawProofs.{entry_of, no_others}
-use Rattle.dep_manager.proofs.Members.{in_sorted}
+use Rattle.config_assembly.proofs.Members.{in_sorted}
 use Rattle.xds_history.proofs.KeepLemmas.{IsKept, HasAll, kept_first, kept_driver, kept_reply, referred, held_referred, pin_referred, stays_all}
 
 -- ---- what a driver's entry makes, piece by piece
@@ -49,24 +49,24 @@ config_at s event reply past ps = config_after (known_at s event reply past ps) 
 
 -- ---- a configuration has what calls refer to
 
-whole_all : (r : Resources) (ps : List Page) (config : Config) → whole_config r (references ps) ≡ Some config → HasAll ps config
+pub whole_all : (r : Resources) (ps : List Page) (config : Config) → whole_config r (references ps) ≡ Some config → HasAll ps config
 whole_all r ps config is name has =
     subst (λ names. Contains names name) (sym (no_others r (references ps) config is)) (in_sorted name_cmp exact_bytes (names_of_front config.front ++ references ps) name has)
 
-all_after : (r : Resources) (ps : List Page) (least : Option Key) → IsKept ps → (config : Config) → config_after r (references ps) least (config_now ps) ≡ Some config → HasAll ps config
+pub all_after : (r : Resources) (ps : List Page) (least : Option Key) → IsKept ps → (config : Config) → config_after r (references ps) least (config_now ps) ≡ Some config → HasAll ps config
 all_after r ps None kept config is = whole_all r ps config is
 all_after r ps (Some key) kept config is = stays_all ps config kept is
 
 -- ---- every right history keeps what calls refer to
 
-kept_at : (s : Setting) (ps : List Page) (past : List Entry) (actor line : ℕ) (what : What) → IsKept ps → IsReply s (entry_of actor line what) what past ps → IsKept (page_of s (entry_of actor line what) what past ps ∷ ps)
+pub kept_at : (s : Setting) (ps : List Page) (past : List Entry) (actor line : ℕ) (what : What) → IsKept ps → IsReply s (entry_of actor line what) what past ps → IsKept (page_of s (entry_of actor line what) what past ps ∷ ps)
 kept_at s ps past actor line (What.Driver event reply) kept right =
     kept_driver ps actor line event reply (present_after past event) (watch (marks_at s event reply past ps) (keys_at s event reply past ps)) (missing_at s event reply past ps) (config_at s event reply past ps)
     (trees_after (present_after past event) (trees_now ps) (config_at s event reply past ps)) reply.snapshot kept right.number_is
     (all_after (known_at s event reply past ps) ps (missing_at s event reply past ps) kept)
 kept_at s ps past actor line (What.Caller event reply) kept right = kept_reply ps past actor line event reply kept right
 
-kept : (s : Setting) (history : List Entry) → Right s history → IsKept (pages s history)
+pub kept : (s : Setting) (history : List Entry) → Right s history → IsKept (pages s history)
 kept s [] right = kept_first
 kept s (e ∷ past) right = kept_at s (pages s past) past e.actor e.line e.what (kept s past right.1) right.0
 

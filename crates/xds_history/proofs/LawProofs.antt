@@ -12,20 +12,18 @@ use Rattle.call_journal.specs.declared.reply.Sent.{Sent}
 use Rattle.call_journal.specs.declared.reply.DriverReply.{DriverReply}
 use Rattle.call_journal.specs.declared.entry.What.{What}
 use Rattle.call_journal.specs.declared.entry.Entry.{Entry}
-use Rattle.dep_manager.specs.Orders.{Name, sorted, name_cmp}
+use Rattle.config_assembly.specs.Orders.{Name, sorted, name_cmp}
 use Rattle.xds_history.specs.Setting.{Setting}
 use Rattle.xds_history.specs.Responses.{Came, verdict}
 use Rattle.xds_history.specs.Requests.{requests}
 use Rattle.xds_history.specs.declared.page.Page.{Page}
 use Rattle.xds_history.specs.Page.{latest}
-use Rattle.dep_manager.specs.Resources.{Resources}
-use Rattle.dep_manager.specs.Front.{front, names_of_front}
-use Rattle.dep_manager.specs.Configs.{cluster_entry, config_with}
+use Rattle.config_assembly.specs.ReachedResources.{Resources}
+use Rattle.config_assembly.specs.Front.{front, names_of_front}
+use Rattle.config_assembly.specs.WholeConfigs.{cluster_entry, config_with}
 use Rattle.xds_history.specs.Pages.{pages, page_of, driver_page, came, present_after}
 use Rattle.xds_history.specs.Right.{IsReply, IsDriverReply, IsNumber, Shown, standing}
-use Rattle.xds_history.specs.Setting.{setting_of}
-use Rattle.xds_history.specs.Legal.{is_read}
-use Rattle.xds_history.specs.Laws.{OneReply, NoOthers, FewEntries, given_in, asked_of}
+use Rattle.xds_history.specs.HistoryLaws.{OneReply, NoOthers, given_in, asked_of}
 
 -- ---- one reply
 
@@ -112,8 +110,3 @@ no_others_with r references config (Some found) is =
 
 pub no_others : NoOthers
 no_others r references config is = no_others_with r references config (front r) is
-
--- ---- few entries
-
-pub few : FewEntries
-few session room history enough legal = enough (is_read (setting_of session.boot session.target)) history legal.listed

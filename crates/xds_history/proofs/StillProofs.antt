@@ -7,10 +7,10 @@ use Rattle.call_journal.specs.declared.event.DriverEvent.{DriverEvent}
 use Rattle.call_journal.specs.declared.reply.DriverReply.{DriverReply}
 use Rattle.call_journal.specs.declared.entry.What.{What}
 use Rattle.call_journal.specs.declared.entry.Entry.{Entry}
-use Rattle.dep_manager.specs.Orders.{Name}
-use Rattle.dep_manager.specs.Resources.{Resources}
-use Rattle.dep_manager.specs.Reach.{reach, missing}
-use Rattle.dep_manager.specs.Configs.{whole_config}
+use Rattle.config_assembly.specs.Orders.{Name}
+use Rattle.config_assembly.specs.ReachedResources.{Resources}
+use Rattle.config_assembly.specs.Reach.{reach, missing}
+use Rattle.config_assembly.specs.WholeConfigs.{whole_config}
 use Rattle.dep_manager.specs.Laws.{IsSame}
 use Rattle.xds_history.specs.Setting.{Setting, known_as}
 use Rattle.xds_history.specs.declared.page.Page.{Page}
@@ -21,7 +21,7 @@ use Rattle.xds_history.specs.References.{references}
 use Rattle.xds_history.specs.Requests.{requests}
 use Rattle.xds_history.specs.Pages.{pages, came, present_after, config_after}
 use Rattle.xds_history.specs.Right.{Right, IsReply}
-use Rattle.xds_history.specs.Laws.{ChangesNothing, ReportsChangeNothing, is_call, is_report, reports}
+use Rattle.xds_history.specs.HistoryLaws.{ChangesNothing, ReportsChangeNothing, is_call, is_report, reports}
 use Rattle.xds_history.proofs.LawProofs.{entry_of}
 use Rattle.xds_history.proofs.KeepProofs.{marks_at, keys_at, missing_at, config_at, right_past}
 use Rattle.dep_manager.proofs.DecideLemmas.{fates_of_reached_keys_decide}

@@ -8,15 +8,15 @@ use Rattle.xc_base.specs.declared.names.Key.{Key}
 use Rattle.xc_base.specs.declared.names.Time.{Time}
 use Rattle.xc_keys.specs.Keys.{is_key}
 use Rattle.xc_keys.proofs.KeyLemmas.{same_key, key_itself}
-use Rattle.xds_cache.specs.Fates.{fate_at}
+use Rattle.xds_cache.specs.KeptFates.{fate_at}
 use Rattle.ads_stream.specs.declared.verdict.Verdict.{Verdict}
 use Rattle.call_journal.specs.declared.event.DriverEvent.{DriverEvent}
 use Rattle.call_journal.specs.declared.reply.DriverReply.{DriverReply}
 use Rattle.call_journal.specs.declared.entry.Entry.{Entry}
 use Rattle.dep_manager.specs.Laws.{AgreeAt}
-use Rattle.dep_manager.specs.Watching.{has_key}
+use Rattle.config_assembly.specs.Watching.{has_key}
 use Rattle.xds_history.specs.Setting.{Setting}
-use Rattle.xds_history.specs.declared.streams.Turn.TheVariants.{Stays}
+use Rattle.xds_history.specs.declared.turns.Turn.TheVariants.{Stays}
 use Rattle.xds_history.specs.Streams.{turn_by}
 use Rattle.xds_history.specs.Responses.{answered}
 use Rattle.xds_history.specs.declared.page.Page.{Page}
@@ -25,7 +25,7 @@ use Rattle.xds_history.specs.declared.page.Mark.{Mark}
 use Rattle.xds_history.specs.Page.{find_watched, watched_now}
 use Rattle.xds_history.specs.Fates.{judged, mark, mark_told, mark_timed, with_mark, marked, fate_in, watch, watch_key}
 use Rattle.xds_history.specs.Pages.{came}
-use Rattle.xds_history.specs.Laws.{is_report}
+use Rattle.xds_history.specs.HistoryLaws.{is_report}
 
 -- ---- watching the same keys again
 

@@ -7,7 +7,7 @@ use Rattle.xc_base.specs.declared.names.Time.{Time}
 use Rattle.call_journal.specs.declared.event.DriverEvent.{DriverEvent}
 use Rattle.call_journal.specs.declared.entry.What.{What}
 use Rattle.call_journal.specs.declared.entry.Entry.{Entry}
-use Rattle.dep_manager.specs.Orders.{Name}
+use Rattle.config_assembly.specs.Orders.{Name}
 
 abbrev pub time_after : DriverEvent → Time → Time
 time_after (DriverEvent.Moment time) before = record { 0 = max time.0 before.0 }

@@ -10,17 +10,17 @@ use Rattle.xc_base.specs.declared.names.Key.{Key}
 use Rattle.xc_base.specs.declared.names.Time.{Time}
 use Rattle.xc_base.specs.declared.reason.Reason.{Reason}
 use Rattle.xds_config.specs.declared.value.Value.{Value}
-use Rattle.xds_cache.specs.Fates.{fate_at}
+use Rattle.xds_cache.specs.KeptFates.{fate_at}
 use Rattle.xds_cache.specs.declared.fate.Known.{Known}
-use Rattle.dep_manager.specs.Reach.{is_wanted}
+use Rattle.config_assembly.specs.Reach.{is_wanted}
 use Rattle.call_journal.specs.declared.event.DriverEvent.{DriverEvent}
 use Rattle.call_journal.specs.declared.entry.Entry.{Entry}
 use Rattle.xds_history.specs.Words.{among, same_kind, lives_at}
 use Rattle.xds_history.specs.Setting.{Setting}
-use Rattle.xds_history.specs.declared.streams.Turn.{Turn}
-use Rattle.xds_history.specs.declared.streams.Turn.TheVariants.{Opens}
+use Rattle.xds_history.specs.declared.turns.Turn.{Turn}
+use Rattle.xds_history.specs.declared.turns.Turn.TheVariants.{Opens}
 use Rattle.xds_history.specs.Streams.{turn_of, is_up, asked_in}
-use Rattle.xds_history.specs.declared.responses.Part.{Part}
+use Rattle.resource_check.specs.declared.delivery.Delivery.{Delivery}
 use Rattle.xds_history.specs.declared.responses.Told.{Told}
 use Rattle.xds_history.specs.Responses.{Came, answered, delivers, is_named}
 use Rattle.xds_history.specs.declared.page.Page.{Page}
@@ -72,7 +72,7 @@ deletes Kind.Listener = true
 deletes Kind.Cluster = true
 deletes _ = false
 
-abbrev pub has_another_name : Key → Part → Bool
+abbrev pub has_another_name : Key → Delivery → Bool
 has_another_name key part = is_some part.name && not (is_named key.name part)
 
 -- no resource is nameless, and none has the key's name

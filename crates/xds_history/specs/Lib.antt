@@ -12,6 +12,4 @@ pub mod Pickers
 pub mod Picks
 pub mod Pages
 pub mod Right
-pub mod Legal
-pub mod Report
-pub mod Laws
+pub mod HistoryLaws

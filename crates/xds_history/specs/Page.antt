@@ -4,12 +4,12 @@ use Rattle.std.specs.List.{find}
 use Rattle.xc_base.specs.declared.names.Key.{Key}
 use Rattle.xc_keys.specs.Keys.{is_key}
 use Rattle.xds_config.specs.declared.config.Config.{Config}
-use Rattle.priority_lb.specs.History.{Update}
+use Rattle.priority_lb.specs.ChildHistories.{Update}
 use Rattle.graceful_switch.specs.Takeover.{Pair}
 use Rattle.cluster_tree.specs.declared.snapshot.Snapshot.{Snapshot}
 use Rattle.xds_history.specs.declared.page.Watched.{Watched}
 use Rattle.xds_history.specs.declared.page.Glimpse.{Glimpse}
-use Rattle.dep_manager.specs.Orders.{Name}
+use Rattle.config_assembly.specs.Orders.{Name}
 use Rattle.xds_history.specs.declared.page.Tree.{Tree}
 use Rattle.xds_history.specs.declared.page.ClusterTrees.{ClusterTrees}
 use Rattle.xds_history.specs.declared.page.Page.{Page}

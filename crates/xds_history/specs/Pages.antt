@@ -4,13 +4,15 @@ use Rattle.xc_base.specs.declared.names.Key.{Key}
 use Rattle.xds_config.specs.declared.config.Config.{Config}
 use Rattle.cluster_tree.specs.declared.snapshot.Snapshot.{Snapshot}
 use Rattle.call_journal.specs.declared.event.DriverEvent.{DriverEvent}
+use Rattle.call_journal.specs.declared.event.CallerEvent.{CallerEvent}
 use Rattle.call_journal.specs.declared.reply.DriverReply.{DriverReply}
+use Rattle.call_journal.specs.declared.reply.CallerReply.{CallerReply}
 use Rattle.call_journal.specs.declared.entry.What.{What}
 use Rattle.call_journal.specs.declared.entry.Entry.{Entry}
-use Rattle.dep_manager.specs.Orders.{Name}
-use Rattle.dep_manager.specs.Resources.{Resources}
-use Rattle.dep_manager.specs.Reach.{reach, missing}
-use Rattle.dep_manager.specs.Configs.{whole_config}
+use Rattle.config_assembly.specs.Orders.{Name}
+use Rattle.config_assembly.specs.ReachedResources.{Resources}
+use Rattle.config_assembly.specs.Reach.{reach, missing}
+use Rattle.config_assembly.specs.WholeConfigs.{whole_config}
 use Rattle.xds_history.specs.Setting.{Setting, known_as}
 use Rattle.xds_history.specs.Clock.{now, state, time_after, reported}
 use Rattle.xds_history.specs.Responses.{Came}
@@ -99,3 +101,12 @@ turned_to s e past ps = page_of s e e.what past ps ∷ ps
 abbrev pub pages : Setting → List Entry → List Page
 pages s [] = []
 pages s (e ∷ past) = turned_to s e past (pages s past)
+
+-- ---- entries
+
+-- the entry of an event of the driver, or of a caller, with its reply
+abbrev pub driven : ℕ → ℕ → DriverEvent → DriverReply → Entry
+driven actor line event reply = record { actor = actor; line = line; what = What.Driver event reply }
+
+abbrev pub called : ℕ → ℕ → CallerEvent → CallerReply → Entry
+called actor line event reply = record { actor = actor; line = line; what = What.Caller event reply }

@@ -19,11 +19,11 @@ use Rattle.weighted_lb.specs.States.{is_ready}
 use Rattle.weighted_lb.specs.Pick.{picker_of}
 use Rattle.priority_lb.specs.declared.facts.ChildFacts.{ChildFacts}
 use Rattle.priority_lb.specs.Step.{view_of}
-use Rattle.priority_lb.specs.History as children
+use Rattle.priority_lb.specs.ChildHistories as children
 use Rattle.graceful_switch.specs.Takeover.{Pair}
-use Rattle.cluster_tree.specs.declared.snapshot.NamedChild.{NamedChild}
-use Rattle.cluster_tree.specs.declared.snapshot.TreeView.{TreeView}
-use Rattle.dep_manager.specs.Orders.{Name}
+use Rattle.tree_steps.specs.declared.tree_view.NamedChild.{NamedChild}
+use Rattle.tree_steps.specs.declared.tree_view.TreeView.{TreeView}
+use Rattle.config_assembly.specs.Orders.{Name}
 use Rattle.xds_history.specs.declared.page.Tree.{Tree}
 use Rattle.xds_history.specs.declared.page.ClusterTrees.{ClusterTrees}
 use Rattle.xds_history.specs.Trees.{of_priority, children_now, chosen_child, chosen_place, leaves_now, trees_of}

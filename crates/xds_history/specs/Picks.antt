@@ -11,13 +11,13 @@ use Rattle.weighted_lb.specs.declared.picker.Part.{Part}
 use Rattle.weighted_lb.specs.declared.picker.PickBody.{PickBody}
 use Rattle.weighted_lb.specs.declared.picker.Chosen.{Chosen}
 use Rattle.weighted_lb.specs.Pick.{choice}
-use Rattle.priority_lb.specs.History as children
-use Rattle.cluster_tree.specs.declared.snapshot.TreeView.{TreeView}
+use Rattle.priority_lb.specs.ChildHistories as children
+use Rattle.tree_steps.specs.declared.tree_view.TreeView.{TreeView}
 use Rattle.cluster_tree.specs.declared.snapshot.Snapshot.{Snapshot}
 use Rattle.call_journal.specs.declared.event.CallerEvent.{CallerEvent}
 use Rattle.call_journal.specs.declared.reply.CallerReply.{CallerReply}
 use Rattle.call_journal.specs.declared.entry.What.{What}
-use Rattle.dep_manager.specs.Orders.{Name}
+use Rattle.config_assembly.specs.Orders.{Name}
 use Rattle.xds_history.specs.declared.page.Page.{Page}
 use Rattle.xds_history.specs.declared.page.Tree.{Tree}
 use Rattle.xds_history.specs.declared.page.ClusterTrees.{ClusterTrees}

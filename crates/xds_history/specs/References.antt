@@ -6,14 +6,14 @@ use Rattle.xc_base.specs.declared.names.CallId.{CallId}
 use Rattle.xc_base.specs.declared.reason.Reason.{Reason}
 use Rattle.xds_config.specs.declared.config.Front.{Front}
 use Rattle.route_match.specs.declared.answer.RouteAnswer.{RouteAnswer}
-use Rattle.route_match.specs.Clusters.{answer_cluster}
+use Rattle.route_match.specs.NamedClusters.{answer_cluster}
 use Rattle.cluster_tree.specs.declared.snapshot.Snapshot.{Snapshot}
 use Rattle.call_journal.specs.declared.event.CallerEvent.{CallerEvent}
 use Rattle.call_journal.specs.declared.reply.CallerReply.{CallerReply}
 use Rattle.call_journal.specs.declared.entry.What.{What}
-use Rattle.dep_manager.specs.Orders.{Name, sorted, name_cmp}
+use Rattle.config_assembly.specs.Orders.{Name, sorted, name_cmp}
 use Rattle.xds_history.specs.Words.{first_some}
-use Rattle.dep_manager.specs.Front.{names_of_front}
+use Rattle.config_assembly.specs.Front.{names_of_front}
 use Rattle.xds_history.specs.declared.page.Page.{Page}
 
 -- the snapshot of a number
@@ -24,6 +24,11 @@ snapshot_at number ps = first_some (λ p. option_and_then (λ x. if x.number == 
 abbrev pub routed_to : Result Front Reason → RouteAnswer → Option Name
 routed_to (Ok front) answer = answer_cluster front answer
 routed_to (Err reason) answer = None
+
+-- the snapshots that were published, the oldest first
+abbrev pub snapshots_of : List Page → List Snapshot
+snapshots_of [] = []
+snapshots_of (p ∷ ps) = snapshots_of ps ++ option_to_list p.snapshot
 
 -- ---- holds
 
@@ -75,3 +80,12 @@ refers_to ps id = option_to_list (held ps id) ++ option_map_or names_in (option_
 -- the clusters that some call refers to, in order, each once
 abbrev pub references : List Page → List Name
 references ps = sorted name_cmp (flat_map (refers_to ps) (calls ps))
+
+abbrev pub seen_after : What → List Name → List Name → List Name
+seen_after (What.Driver event reply) now before = now
+seen_after (What.Caller event reply) now before = before
+
+-- what calls referred to at the driver's last entry
+abbrev pub references_seen : List Page → List Name
+references_seen [] = []
+references_seen (p ∷ ps) = seen_after p.entry.what (references ps) (references_seen ps)

@@ -15,11 +15,11 @@ use Rattle.proto_discovery.specs.declared.request.Request.{Request}
 use Rattle.ads_stream.specs.declared.verdict.Verdict.{Verdict}
 use Rattle.call_journal.specs.declared.reply.Sent.{Sent}
 use Rattle.call_journal.specs.declared.entry.Entry.{Entry}
-use Rattle.dep_manager.specs.Orders.{Name}
+use Rattle.config_assembly.specs.Orders.{Name}
 use Rattle.xds_history.specs.Words.{same_kind, all_kinds, lives_at}
 use Rattle.xds_history.specs.Setting.{Setting}
 use Rattle.xds_history.specs.Streams.{turn_by, before_turn, stream, asked}
-use Rattle.xds_history.specs.declared.responses.Part.{Part}
+use Rattle.resource_check.specs.declared.delivery.Delivery.{Delivery}
 use Rattle.xds_history.specs.Responses.{Came, answered, accepted, told_of, version, nonce_on}
 use Rattle.xds_history.specs.declared.page.Watched.{Watched}
 
@@ -31,7 +31,7 @@ name_text place None = codes "resource " ++ decimal place
 name_text place (Some name) = name
 
 -- the refused resources of a list whose first has this place, each with its reason
-abbrev pub refusals_from : ℕ → List Part → List Name
+abbrev pub refusals_from : ℕ → List Delivery → List Name
 refusals_from place [] = []
 refusals_from place (part ∷ parts) = with_result part.result (refusals_from (suc place) parts)
   where
@@ -45,7 +45,7 @@ joined [] = []
 joined (text ∷ []) = text
 joined (text ∷ more ∷ texts) = text ++ (codes "; " ++ joined (more ∷ texts))
 
-abbrev pub error_text : List Part → Name
+abbrev pub error_text : List Delivery → Name
 error_text parts = joined (refusals_from 0 parts)
 
 -- ---- what is asked

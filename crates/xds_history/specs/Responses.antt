@@ -1,6 +1,6 @@
 -- Verdicts on responses, what answered ones deliver, versions and nonces (Envoy's xDS protocol, "ACK and NACK"; that the
 -- valid resources of a refused response are accepted one by one is this project's own).
-use Rattle.std.specs.Prelude.{List, [], ◌∷◌, map, Bool, false, ◌&&◌, if◌then◌else◌, Option, Some, None, Result, Ok, Err, is_some, is_ok, unwrap_or, option_map, option_and_then}
+use Rattle.std.specs.Prelude.{List, [], ◌∷◌, ◌++◌, map, Bool, false, ◌&&◌, if◌then◌else◌, Option, Some, None, Result, Ok, Err, is_some, is_ok, unwrap_or, option_map, option_and_then}
 use Rattle.std.specs.List.{list_all, find, filter_map}
 use Rattle.std.specs.Option.{option_map_or}
 use Rattle.std.specs.Str.{bytes_eq}
@@ -12,15 +12,14 @@ use Rattle.proto_discovery.specs.declared.any.AnyValue.{AnyValue}
 use Rattle.proto_discovery.specs.declared.response.Response.{Response}
 use Rattle.xds_config.specs.declared.value.Value.{Value}
 use Rattle.resource_check.specs.declared.resource.Checked.{Checked}
-use Rattle.resource_check.specs.declared.fault.Stop.{Stop}
-use Rattle.resource_check.specs.declared.fault.Refusal.{Refusal}
-use Rattle.resource_check.specs.Resources.{reason_of}
+use Rattle.check_steps.specs.declared.check_fault.Refusal.{Refusal}
+use Rattle.resource_check.specs.Deliveries.{delivery_of, told_apart, refused_text, once}
 use Rattle.ads_stream.specs.declared.verdict.Verdict.{Verdict}
 use Rattle.call_journal.specs.declared.event.DriverEvent.{DriverEvent}
 use Rattle.call_journal.specs.declared.entry.What.{What}
 use Rattle.call_journal.specs.declared.entry.Entry.{Entry}
-use Rattle.dep_manager.specs.Orders.{Name}
-use Rattle.xds_history.specs.declared.responses.Part.{Part}
+use Rattle.config_assembly.specs.Orders.{Name}
+use Rattle.resource_check.specs.declared.delivery.Delivery.{Delivery}
 use Rattle.xds_history.specs.declared.responses.Told.{Told}
 use Rattle.xds_history.specs.Words.{among, first_some, same_kind, same_authority, lives_at}
 use Rattle.xds_history.specs.Setting.{Setting}
@@ -34,37 +33,19 @@ pub record Came : Type 0 where
   pub verdict : Verdict
   pub refused : List Name
 
-abbrev pub part_of : Result Checked Refusal → Part
-part_of (Ok checked) = record { name = Some checked.name; result = Ok checked.value }
-part_of (Err refusal) = record { name = refusal.name; result = Err (reason_of refusal.stop) }
-
-abbrev pub is_named : Name → Part → Bool
+abbrev pub is_named : Name → Delivery → Bool
 is_named name part = option_map_or (bytes_eq name) part.name false
-
--- whether a resource before this one has its name
-abbrev pub is_second : List Name → Part → Bool
-is_second before part = option_map_or (λ name. among name before) part.name false
-
-abbrev pub with_name : Option Name → List Name → List Name
-with_name None names = names
-with_name (Some name) names = name ∷ names
-
--- the second resource of a name is refused as such
-abbrev pub told_apart : List Name → List Part → List Part
-told_apart before [] = []
-told_apart before (part ∷ parts) =
-    (if is_second before part then record part { result = Err Reason.Second } else part) ∷ told_apart (with_name part.name before) parts
 
 -- the checks of the resources, where these pattern texts are refused
 abbrev pub checks : Setting → Kind → List AnyValue → List Name → List (Result Checked Refusal)
 checks s kind resources refused = map (s.check (λ text. among text refused) kind) resources
 
-abbrev pub parts : Setting → Kind → List AnyValue → List Name → List Part
-parts s kind resources refused = told_apart [] (map part_of (checks s kind resources refused))
+abbrev pub parts : Setting → Kind → List AnyValue → List Name → List Delivery
+parts s kind resources refused = told_apart [] (map delivery_of (checks s kind resources refused))
 
 -- ---- verdicts
 
-abbrev pub verdict_on_parts : Kind → List Part → Verdict
+abbrev pub verdict_on_parts : Kind → List Delivery → Verdict
 verdict_on_parts kind ps = if list_all (λ p. is_ok p.result) ps then Verdict.Ack kind else Verdict.Nack kind
 
 -- a kind was asked for on the stream that is up
@@ -128,23 +109,20 @@ delivers t k =
 
 -- ---- pattern texts
 
-abbrev pub refused_text : Result Checked Refusal → Option Name
-refused_text (Ok checked) = None
-refused_text (Err refusal) = of_stop refusal.stop
-  where
-    of_stop : Stop → Option Name
-    of_stop (Stop.Because reason) = None
-    of_stop (Stop.Refused pattern) = Some pattern
-
--- each name once, at its first place
-abbrev pub once : List Name → List Name → List Name
-once before [] = []
-once before (name ∷ names) = if among name before then once before names else name ∷ once (name ∷ before) names
-
 -- the pattern texts at which the checks of an answered response stop where these are refused, each once
 abbrev pub stopped_at : Setting → List Name → Option Told → List Name
 stopped_at s refused None = []
 stopped_at s refused (Some t) = once [] (filter_map refused_text (checks s t.kind t.resources refused))
+
+-- the pattern texts that an entry tells as refused
+abbrev pub refused_in : What → List Name
+refused_in (What.Driver event reply) = reply.refused
+refused_in (What.Caller event reply) = []
+
+-- the pattern texts that a history tells as refused, in the order in which they were: those of the oldest entry first
+abbrev pub refused_texts : List Entry → List Name
+refused_texts [] = []
+refused_texts (e ∷ past) = refused_texts past ++ refused_in e.what
 
 -- ---- versions and nonces
 

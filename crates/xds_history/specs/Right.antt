@@ -5,7 +5,7 @@ use Rattle.xc_base.specs.declared.call.Call.{Call}
 use Rattle.xc_base.specs.declared.reason.Reason.{Reason}
 use Rattle.xds_config.specs.declared.config.Config.{Config}
 use Rattle.route_match.specs.Routes.{route}
-use Rattle.cluster_tree.specs.declared.snapshot.TreeView.{TreeView}
+use Rattle.tree_steps.specs.declared.tree_view.TreeView.{TreeView}
 use Rattle.cluster_tree.specs.declared.snapshot.Snapshot.{Snapshot}
 use Rattle.call_journal.specs.declared.event.DriverEvent.{DriverEvent}
 use Rattle.call_journal.specs.declared.event.CallerEvent.{CallerEvent}

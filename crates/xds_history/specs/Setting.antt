@@ -13,11 +13,11 @@ use Rattle.xds_bootstrap.specs.declared.bootstrap.Bootstrap.{Bootstrap}
 use Rattle.xds_name.specs.Names.{resource_key}
 use Rattle.xds_name.specs.declared.target.Target.{Target}
 use Rattle.xds_cache.specs.declared.fate.Known.{Known}
-use Rattle.dep_manager.specs.Resources.{Resources}
+use Rattle.config_assembly.specs.ReachedResources.{Resources}
 use Rattle.resource_check.specs.declared.resource.Checked.{Checked}
-use Rattle.resource_check.specs.declared.fault.Refusal.{Refusal}
+use Rattle.check_steps.specs.declared.check_fault.Refusal.{Refusal}
 use Rattle.resource_check.specs.Resources.{check_of}
-use Rattle.dep_manager.specs.Orders.{Name}
+use Rattle.config_assembly.specs.Orders.{Name}
 
 pub record Setting : Type 0 where
   -- the listener's key, and the text for which a virtual host is chosen

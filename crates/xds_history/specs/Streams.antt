@@ -9,9 +9,9 @@ use Rattle.call_journal.specs.declared.event.DriverEvent.{DriverEvent}
 use Rattle.call_journal.specs.declared.reply.Sent.{Sent}
 use Rattle.call_journal.specs.declared.entry.What.{What}
 use Rattle.call_journal.specs.declared.entry.Entry.{Entry}
-use Rattle.dep_manager.specs.Orders.{Name}
-use Rattle.xds_history.specs.declared.streams.Turn.{Turn}
-use Rattle.xds_history.specs.declared.streams.Turn.TheVariants.{Opens, Ends, Stays}
+use Rattle.config_assembly.specs.Orders.{Name}
+use Rattle.xds_history.specs.declared.turns.Turn.{Turn}
+use Rattle.xds_history.specs.declared.turns.Turn.TheVariants.{Opens, Ends, Stays}
 use Rattle.xds_history.specs.Words.{first_some, same_kind, same_authority}
 
 -- ---- up and down: what an event does to the stream of an authority

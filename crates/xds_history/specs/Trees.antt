@@ -15,12 +15,12 @@ use Rattle.xds_config.specs.declared.config.ClusterEntry.{ClusterEntry}
 use Rattle.xds_config.specs.declared.config.Config.{Config}
 use Rattle.weighted_lb.specs.States.{joined}
 use Rattle.priority_lb.specs.declared.facts.ChildFacts.{ChildFacts}
-use Rattle.priority_lb.specs.Walk.{chosen}
-use Rattle.priority_lb.specs.History.{Update, names_of}
-use Rattle.priority_lb.specs.History as children
-use Rattle.priority_lb.specs.Law.{all_facts, seen_now}
+use Rattle.priority_lb.specs.ChildWalk.{chosen}
+use Rattle.priority_lb.specs.ChildHistories.{Update, names_of}
+use Rattle.priority_lb.specs.ChildHistories as children
+use Rattle.priority_lb.specs.ChildLaws.{all_facts, seen_now}
 use Rattle.graceful_switch.specs.Takeover.{Pair, settled}
-use Rattle.dep_manager.specs.Orders.{Name}
+use Rattle.config_assembly.specs.Orders.{Name}
 use Rattle.xds_history.specs.declared.page.Glimpse.{Glimpse}
 use Rattle.xds_history.specs.declared.page.Tree.{Tree}
 use Rattle.xds_history.specs.declared.page.ClusterTrees.{ClusterTrees}

@@ -7,7 +7,7 @@ use Rattle.xc_base.specs.declared.names.Kind.{Kind}
 use Rattle.xc_base.specs.declared.names.Authority.{Authority}
 use Rattle.xc_base.specs.declared.names.Home.{Home}
 use Rattle.xc_keys.specs.Keys.{kind_place}
-use Rattle.dep_manager.specs.Orders.{Name}
+use Rattle.config_assembly.specs.Orders.{Name}
 
 abbrev pub among : Name → List Name → Bool
 among name names = list_any (bytes_eq name) names

@@ -2,11 +2,11 @@
 //! its journal, the newest first, and what they hold as values.
 #![tactic(auto)]
 
-pub mod laws;
+pub mod history_laws;
 pub mod page;
 pub mod responses;
-pub mod streams;
+pub mod turns;
 
 pub use page::{ClusterTrees, Glimpse, Mark, Page, Tree, Watched};
-pub use responses::{Part, Told};
-pub use streams::Turn;
+pub use responses::Told;
+pub use turns::Turn;

@@ -5,7 +5,7 @@ use xc_base::{Key, List, Reason, Shared, State, Text, Time};
 use xds_config::{Config, Leaf, Value};
 
 /// What comes for a key.
-#[derive(Debug, Drop)]
+#[derive(Drop)]
 pub enum Mark {
     /// A valid resource.
     Valid(Value),
@@ -16,14 +16,14 @@ pub enum Mark {
 }
 
 /// A watched key, with what came for it since it is watched, the newest first.
-#[derive(Debug, Drop)]
+#[derive(Drop)]
 pub struct Watched {
     pub key: Key,
     pub marks: List<Mark>,
 }
 
 /// A tree at a driver's entry: its leaves, and their priorities with their states at that time.
-#[derive(Debug, Drop)]
+#[derive(Drop)]
 pub struct Glimpse {
     pub leaves: List<Leaf>,
     pub children: List<((Text, u32), State)>,
@@ -31,14 +31,14 @@ pub struct Glimpse {
 }
 
 /// A tree, with what it was at each driver's entry at which it stood, the newest first.
-#[derive(Debug, Drop)]
+#[derive(Drop)]
 pub struct Tree {
     pub aggregate: bool,
     pub life: List<Glimpse>,
 }
 
 /// The trees of a cluster: the one that serves, and the one that waits to.
-#[derive(Debug, Drop)]
+#[derive(Drop)]
 pub struct ClusterTrees {
     pub cluster: Text,
     pub serving: Tree,

@@ -4,9 +4,9 @@ use Rattle.std.specs.List.{join_with_byte}
 use Rattle.std.specs.Prelude.{is_some}
 use Rattle.xds_name.specs.Names.{parts_of, canonical_of}
 use Rattle.xds_name.specs.Parameters.{in_order}
-use Rattle.xds_name.specs.Texts.{cut_at, parts_at}
-use Rattle.xds_name.specs.Views.{seen_parts}
-use Rattle.xds_name.specs.declared.parts.Parts.{Parts}
+use Rattle.xds_name.specs.NameTexts.{cut_at, parts_at}
+use Rattle.xds_name.specs.NameViews.{seen_parts}
+use Rattle.xds_name.specs.declared.name_parts.Parts.{Parts}
 
 -- a name that has the form and parameters
 pub sorted_name : (found : Option Parts) (text head parameters joined name : List ℕ) → seen_parts found ≡ parts_of text → is_some found ≡ true → Some (head, parameters) ≡ cut_at 63 text

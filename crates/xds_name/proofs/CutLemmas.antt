@@ -7,7 +7,7 @@ use Rattle.std.proofs.Math.Seq.{take-append_seam, drop-append_seam}
 use Rattle.std.proofs.lemmas.List.{take-append-drop}
 use Rattle.std.specs.List.{position_or_len}
 use Rattle.std.specs.Prelude.{bytes_eq, option_map, is_some, unwrap_or}
-use Rattle.xds_name.specs.Texts.{after, cut_at, lacks}
+use Rattle.xds_name.specs.NameTexts.{after, cut_at, lacks}
 
 eqb_same : (n : ℕ) → eqb n n ≡ true
 eqb_same n = grind (arith, nat_tests)

@@ -3,7 +3,7 @@ use Rattle.std.proofs.Common.{◌≡◌, ℕ, List, ◌∷◌, ◌++◌, true, O
 use Rattle.std.specs.Prelude.{codes, is_some, option_and_then, unwrap_or}
 use Rattle.xds_name.proofs.CutLemmas.{Cuts, cuts_as, cut_joined, after_is, after_joined}
 use Rattle.xds_name.specs.Names.{Parts, HasForm, head_of, with_authority, with_resource, parts_from, parts_of}
-use Rattle.xds_name.specs.Texts.{after, cut_at, lacks}
+use Rattle.xds_name.specs.NameTexts.{after, cut_at, lacks}
 
 given : (x y : Parts) → Some x ≡ Some y → x ≡ y
 given x y e = ap (λ o. unwrap_or o x) e

@@ -13,7 +13,7 @@ use Rattle.xds_name.proofs.CutLemmas.{cuts_as, cut_joined, lacks_first, after_is
 use Rattle.xds_name.proofs.OrderLemmas.{in_order_same, in_order_ascends, in_order_only}
 use Rattle.xds_name.specs.Names.{head_of, parts_of, canonical_of, with_sorted, begins_with_digits, has_bad_escape, parts_from, home_of, is_xdstp}
 use Rattle.xds_name.specs.Parameters.{in_order}
-use Rattle.xds_name.specs.Texts.{after, cut_at, lacks, parts_at}
+use Rattle.xds_name.specs.NameTexts.{after, cut_at, lacks, parts_at}
 
 -- ---- parts and the text that they make
 

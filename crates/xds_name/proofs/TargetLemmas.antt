@@ -3,7 +3,7 @@ use Rattle.std.proofs.Common.{◌≡◌, ◌≢◌, ℕ, List, [], ◌∷◌, �
 use Rattle.std.specs.Prelude.{codes, is_some, option_and_then, unwrap_or}
 use Rattle.xds_name.proofs.CutLemmas.{Cuts, cuts_as, cut_joined, after_is}
 use Rattle.xds_name.specs.Targets.{IsTarget, plain, rooted, named, target_of, target_after, target_parts}
-use Rattle.xds_name.specs.Texts.{after, cut_at, lacks}
+use Rattle.xds_name.specs.NameTexts.{after, cut_at, lacks}
 
 -- ---- what has a form is found
 

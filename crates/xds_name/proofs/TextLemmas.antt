@@ -3,7 +3,7 @@ use Rattle.std.proofs.Common.{◌≡◌, ◌≢◌, ℕ, List, ◌++◌, length,
 use Rattle.std.proofs.Math.Seq.{take-append_seam}
 use Rattle.std.proofs.lemmas.Slice.Eq.{bytes_eq-Decides}
 use Rattle.std.specs.Prelude.{bytes_eq}
-use Rattle.xds_name.specs.Texts.{after}
+use Rattle.xds_name.specs.NameTexts.{after}
 
 -- what `strip_prefix` gives, in the word `after`
 begins : (t : Bool) (front text : List ℕ) → t ≡ bytes_eq (take (length front) text) front → t ≡ true → text ≡ front ++ drop (length front) text

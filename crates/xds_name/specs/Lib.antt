@@ -1,6 +1,6 @@
-pub mod Texts
+pub mod NameTexts
 pub mod Parameters
 pub mod Names
 pub mod Targets
-pub mod Views
-pub mod Laws
+pub mod NameViews
+pub mod NameLaws

@@ -12,7 +12,7 @@ use Rattle.xc_base.specs.declared.names.Home.TheVariants.{At, Nowhere}
 use Rattle.xc_base.specs.declared.names.Key.{Key}
 use Rattle.xds_bootstrap.specs.Authorities.{authority_of}
 use Rattle.xds_bootstrap.specs.declared.bootstrap.AuthorityEntry.{AuthorityEntry}
-use Rattle.xds_name.specs.Texts.{lacks, cut_at, parts_at, after}
+use Rattle.xds_name.specs.NameTexts.{lacks, cut_at, parts_at, after}
 use Rattle.xds_name.specs.Parameters.{in_order}
 
 -- ---- the form `xdstp://authority/type/id`, with an optional `?` and parameters

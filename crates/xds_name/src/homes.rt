@@ -3,7 +3,7 @@ ghost use Rattle.std.specs.Prelude.{◌≡◌, IfOk};
 ghost use Rattle.xds_name.specs.Names.{begins_with_digits, has_bad_escape, home_of, resource_key, type_name};
 
 use crate::canonical_text::{canonical, canonical_name};
-use crate::parts::parts_in;
+use crate::name_parts::parts_in;
 use std::alloc::Global;
 use xc_base::{Authority, Home, Key, Kind, Memory, NameFault, Text};
 use xds_bootstrap::Bootstrap;
@@ -20,13 +20,14 @@ pub fn type_name(kind: Kind) -> &'static str
     }
 }
 
+/// Whether a text begins with two hexadecimal digits.
 fn begins_with_digits(text: &[u8]) -> bool
     ensures { result ≡ begins_with_digits text.now }
 {
     matches!(text, [high, low, ..] if high.is_ascii_hexdigit() && low.is_ascii_hexdigit())
 }
 
-// Whether there is a `%` without two hexadecimal digits after it.
+/// Whether there is a `%` without two hexadecimal digits after it.
 #[tactic(auto, unfolding(crate::specs::Names::has_bad_escape))]
 fn has_bad_escape(text: &[u8]) -> bool
     ensures { result ≡ has_bad_escape text.now }
@@ -39,6 +40,7 @@ fn has_bad_escape(text: &[u8]) -> bool
     false
 }
 
+/// Where a name of a kind lives: each name but an `xdstp:` name at the default authority.
 #[tactic(auto, unfolding(crate::specs::Names::home_of))]
 fn home(boot: &Bootstrap, kind: Kind, text: &str) -> Home
     ensures { result ≡ home_of boot.now.authorities kind text.now }
@@ -61,8 +63,8 @@ fn home(boot: &Bootstrap, kind: Kind, text: &str) -> Home
     }
 }
 
-/// The key of a name of a kind: its canonical text, and where it lives. Of the faults of an `xdstp:`
-/// name the first counts: a bad escape, a wrong type, an unknown authority.
+/// The key of a name of a kind (gRFC A47): its canonical text, and where it lives, which is nowhere for
+/// an `xdstp:` name at fault. The first fault counts: a bad escape, a wrong type, an unknown authority.
 pub fn parse_name(alloc: Global, boot: &Bootstrap, kind: Kind, text: &str) -> Result<Key, Memory>
     ensures { IfOk result (λ key. key ≡ resource_key boot.now.authorities kind text.now) }
 {
@@ -71,7 +73,7 @@ pub fn parse_name(alloc: Global, boot: &Bootstrap, kind: Kind, text: &str) -> Re
     Ok(Key { kind, name, home })
 }
 
-/// The same of a name that is held as a text, which the key shares where it can't have another canonical
+/// The key of a name that is held as a text, which the key shares where the name is its own canonical
 /// text.
 pub fn name_key(alloc: Global, boot: &Bootstrap, kind: Kind, name: &Text) -> Result<Key, Memory>
     ensures { IfOk result (λ key. key ≡ resource_key boot.now.authorities kind name.now) }

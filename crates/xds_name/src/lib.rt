@@ -3,20 +3,17 @@
 #![tactic(auto)]
 
 pub mod canonical_text;
-mod forms;
 pub mod homes;
-pub mod laws;
-mod parts;
+pub mod name_laws;
+mod name_parts;
+mod name_texts;
 pub mod target;
+mod target_forms;
 mod templates;
-mod texts;
 
 pub use canonical_text::{canonical, canonical_name};
 pub use homes::{name_key, parse_name, type_name};
-pub use laws::{
+pub use name_laws::{
     canonical_names_stay, names_have_forms, parameters_are_in_order, targets_have_forms,
 };
 pub use target::{Target, TargetFault, listener_name};
-
-#[cfg(test)]
-mod tests;

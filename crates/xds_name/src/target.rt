@@ -1,17 +1,18 @@
 //! What a channel's target names.
 ghost use Rattle.std.specs.Prelude.{◌≡◌, ◌≢◌, ◌↔◌, Some, ℕ, List, Option, Err, slice_get};
 ghost use Rattle.xds_name.specs.Targets.{Gives, IsTarget, listener_of, template_at, template_for, with_form};
-ghost use Rattle.xds_name.specs.Texts.{seen};
+ghost use Rattle.xds_name.specs.NameTexts.{seen};
 ghost use Rattle.xds_name.specs.declared.target.TargetFault.TheVariants as Fault;
 
-use crate::forms::{Form, target_form};
 use crate::homes::parse_name;
+use crate::target_forms::{Form, target_form};
 use crate::templates::name_from;
 use std::alloc::{AllocError, Global};
 use xc_base::{Home, Key, Kind, NameFault, Text};
 use xds_bootstrap::Bootstrap;
 
-/// The listener that a target names, and the host text of the channel.
+/// The key of the listener that a target names, and the channel's host, by which a virtual host is
+/// chosen.
 #[derive(Clone, Debug, Drop, PartialEq, Eq)]
 pub struct Target {
     pub key: Key,
@@ -21,7 +22,7 @@ pub struct Target {
 /// Why a target names no listener.
 #[derive(Clone, Copy, Debug, PartialEq, Eq)]
 pub enum TargetFault {
-    /// It has none of the forms of a target.
+    /// It has none of the forms `xds:name`, `xds:///name` and `xds://authority/name`.
     BadTarget,
     /// Its authority isn't in the bootstrap, or the name that was made has no home.
     Name(NameFault),
@@ -37,6 +38,7 @@ impl From<AllocError> for TargetFault {
     }
 }
 
+/// The template of the entry at a place, and `%s` where there is none.
 fn template_at(boot: &Bootstrap, place: usize) -> &str
     ensures { result.now ≡ template_at (slice_get boot.now.authorities place) }
 {
@@ -46,6 +48,7 @@ fn template_at(boot: &Bootstrap, place: usize) -> &str
     }
 }
 
+/// The template of an authority, or of the default one where the target names none.
 #[tactic(auto, unfolding(crate::specs::Targets::template_for))]
 fn template_for<'a>(boot: &'a Bootstrap, authority: Option<&str>) -> Option<&'a str>
     ensures { seen result ≡ template_for boot.now.authorities (seen authority.entry) }
@@ -59,6 +62,7 @@ fn template_for<'a>(boot: &'a Bootstrap, authority: Option<&str>) -> Option<&'a 
     }
 }
 
+/// The listener that a target of this form names.
 fn listener_of_form(alloc: Global, boot: &Bootstrap, form: Form<'_>) -> Result<Target, TargetFault>
     ensures gives { Gives (with_form boot.now.authorities (Some (seen form.entry.authority, form.entry.name.now))) result }
     ensures formed { result ≢ Err TargetFault.BadTarget }
@@ -75,8 +79,10 @@ fn listener_of_form(alloc: Global, boot: &Bootstrap, form: Form<'_>) -> Result<T
     Ok(Target { key, host })
 }
 
-/// The listener that a target names through the templates of the bootstrap, and the target's name as
-/// the host text.
+/// The listener that a target names through the templates of the bootstrap (gRFC A27, A47), and the
+/// target's name as the host. It answers `BadTarget` where the target has none of the three forms, `Name`
+/// where its authority isn't in the bootstrap or the name that was made has no home, and `Memory` where
+/// there was no memory.
 #[tactic(auto, unfolding(crate::specs::Targets::listener_of))]
 pub fn listener_name(alloc: Global, boot: &Bootstrap, target: &str) -> Result<Target, TargetFault>
     ensures gives { Gives (listener_of boot.now.authorities target.now) result }

@@ -6,7 +6,7 @@ use percent_encoding::{AsciiSet, NON_ALPHANUMERIC, ascii_set, utf8_percent_encod
 use std::alloc::Global;
 use xc_base::Memory;
 
-// All but letters, digits and `-._~!$&'()*+,;=:@/`.
+/// The bytes that are escaped: all but letters, digits and `-._~!$&'()*+,;=:@/`.
 const ESCAPED: AsciiSet = ascii_set!(
     NON_ALPHANUMERIC
         .remove(b'-')
@@ -29,7 +29,8 @@ const ESCAPED: AsciiSet = ascii_set!(
         .remove(b'/')
 );
 
-fn escaped(alloc: Global, name: &str) -> Result<String, Memory>
+/// A name with `%` and two upper-case hexadecimal digits in place of each byte that is escaped.
+fn escape(alloc: Global, name: &str) -> Result<String, Memory>
     ensures { IfOk result (λ s. string_bytes s ≡ escaped name.now) }
 {
     let mut text = String::new(alloc);
@@ -37,21 +38,22 @@ fn escaped(alloc: Global, name: &str) -> Result<String, Memory>
     Ok(text)
 }
 
-fn filled(alloc: Global, template: &str, name: &str) -> Result<String, Memory>
+/// A template with a name in place of each `%s`.
+fn fill(alloc: Global, template: &str, name: &str) -> Result<String, Memory>
     ensures { IfOk result (λ s. string_bytes s ≡ filled name.now template.now) }
 {
     template.replace(alloc, "%s", name)
 }
 
-/// The template with the name in place of each `%s`. Where the template begins with `xdstp:`, all
-/// bytes of the name but letters, digits and `-._~!$&'()*+,;=:@/` are escaped.
+/// The template with the name in place of each `%s` (gRFC A47). Where the template begins with `xdstp:`,
+/// all bytes of the name but letters, digits and `-._~!$&'()*+,;=:@/` are escaped.
 pub fn name_from(alloc: Global, template: &str, name: &str) -> Result<String, Memory>
     ensures { IfOk result (λ s. string_bytes s ≡ name_from template.now name.now) }
 {
     if template.starts_with("xdstp:") {
-        let name = escaped(alloc, name)?;
-        filled(alloc, template, &name)
+        let name = escape(alloc, name)?;
+        fill(alloc, template, &name)
     } else {
-        filled(alloc, template, name)
+        fill(alloc, template, name)
     }
 }

@@ -1,16 +1,2 @@
-mod FindLemmas
-pub mod PlayLemmas
-mod ReportLemmas
+mod BootLemmas
 mod RunLemmas
-pub mod LineLemmas
-pub mod SessionLemmas
-pub mod TextLemmas
-mod LawEnds
-mod LawLemmas
-mod LawListed
-mod LawNumbers
-mod LawReplies
-mod LawSnapshots
-mod LawStates
-mod LawSteps
-mod LawTexts

@@ -1,12 +1,3 @@
-pub mod Causes
-pub mod Counts
-pub mod Forms
-pub mod Law
-pub mod Legal
-pub mod Lines
-pub mod Outcome
-pub mod Played
-pub mod Playing
-pub mod Report
-pub mod Seen
-pub mod Session
+pub mod Commands
+pub mod Inputs
+pub mod Outcomes

@@ -1,25 +1,23 @@
-//! Replays a session from standard input, and reports it on standard output.
+//! Replays a session from standard input, and reports it on standard output; or writes the generated session; or plays it
+//! and writes its totals.
 #![tactic(auto)]
 
-pub mod caller_lines;
-pub mod driver_lines;
-pub mod forms;
-pub mod law;
-pub mod lines;
-pub mod play;
+pub mod commands;
 pub mod program;
-pub mod reader;
-pub mod report;
-pub mod session;
-#[cfg(test)]
-mod tests;
-pub mod texts;
+pub mod session_input;
+pub mod standard_streams;
+pub mod statuses;
 
-use program::{Status, run};
+use header_match::RegexPatterns;
+use program::run;
+use standard_streams::{StandardInput, StandardOutput};
+use statuses::Status;
+use std::alloc::Global;
+use std::io::{Read, Write};
 use std::process::ExitCode;
 use std::rt::Env;
+use std::sync::Wait;
 use std::{env, io};
-use xc_base::{StdSink, StdSource};
 
 // Why there are no words: one of them isn't text, or there was no memory.
 fn unread(fault: &io::Error) -> Status {
@@ -35,19 +33,7 @@ fn words<R: Env + AllocGlobal>(rt: &R) -> Result<Vec<String>, Status> {
     args.collect(rt.alloc()).map_err(|_| Status::Memory)
 }
 
-// The status that the process ends with.
-fn number(status: Status) -> u8 {
-    match status {
-        Status::Done => 0,
-        Status::Words => 2,
-        Status::Session { .. } => 3,
-        Status::ReadFault => 4,
-        Status::WriteFault => 5,
-        Status::Memory => 6,
-    }
-}
-
-// Tells on standard error why there is no report.
+// Tells on standard error why the command didn't do its work.
 fn tell<R: Eprint>(rt: &R, status: Status) {
     let _ = match status {
         Status::Done => Ok(()),
@@ -61,15 +47,35 @@ fn tell<R: Eprint>(rt: &R, status: Status) {
     };
 }
 
+// Runs the command over an input and an output, and hands on what the output still has to take.
+fn run_over<R: Wait + Sync, I: Read + Drop, O: Write + Drop>(
+    rt: &R,
+    alloc: Global,
+    words: &[String],
+    input: I,
+    output: O,
+) -> Result<Status, Status> {
+    let mut source = StandardInput::new(alloc, input).map_err(|_| Status::Memory)?;
+    let mut sink = StandardOutput::new(alloc, output).map_err(|_| Status::Memory)?;
+    let mut patterns = RegexPatterns::new(alloc);
+    let status = run(rt, alloc, words, &mut source, &mut sink, &mut patterns);
+    sink.flush().map_err(|_| Status::WriteFault)?;
+    Ok(status)
+}
+
+// The status with which a run ended early or late.
+fn either(ended: Result<Status, Status>) -> Status {
+    match ended {
+        Ok(status) => status,
+        Err(status) => status,
+    }
+}
+
 fn main(rt: HostRuntime) -> ExitCode {
     let status = match words(&rt) {
-        Ok(words) => {
-            let mut source = StdSource::new(rt.stdin());
-            let mut sink = StdSink::new(rt.stdout());
-            run(rt.alloc(), &words, &mut source, &mut sink)
-        }
+        Ok(words) => either(run_over(&rt, rt.alloc(), &words, rt.stdin(), rt.stdout())),
         Err(status) => status,
     };
     tell(&rt, status);
-    ExitCode::from(number(status))
+    ExitCode::from(status.number())
 }

@@ -1,133 +1,201 @@
-//! The program: from the bytes of a session to the bytes of a report.
-ghost use Rattle.std.specs.Prelude.{◌≡◌, ◌↔◌, ◌⊎◌, ℕ, IfSome, Err, Ok, false, true};
+//! The program: its three commands, over any source and any sink of bytes.
+ghost use Rattle.std.specs.Prelude.{◌≡◌, ◌≢◌, ◌↔◌, ◌⊎◌, ◌≤◌, ◌<◌, ◌^◌, [], ℕ, length, IfSome, Err, Ok, None, Some};
 ghost use Rattle.std.specs.Io.KnownBytes.{Appends};
 ghost use Rattle.xc_base.specs.Causes.{Rose};
-ghost use Rattle.xds_replay.specs.declared.session.Cause.{Cause};
-ghost use Rattle.xds_replay.specs.declared.session.Session.{Session};
-ghost use Rattle.xds_replay.specs.Played.{played_session};
-ghost use Rattle.xds_replay.specs.Session.{Gives};
-ghost use Rattle.xds_replay.specs.Outcome.{Fronts, Reports, WritesNothing, is_run, status_of};
+ghost use Rattle.xc_base.specs.Outside.{AppendsPrefix};
+ghost use Rattle.snapshot_store.specs.Tickets.{values_of};
+ghost use Rattle.session_lines.specs.Session.{session_of};
+ghost use Rattle.session_lines.specs.declared.cause.Cause.{Cause};
+ghost use Rattle.session_lines.specs.declared.session.Session.{Session as SessionValue};
+ghost use Rattle.generated_law.specs.GeneratedSession.{generated_session};
+ghost use Rattle.xds_history.specs.Pages.{pages};
+ghost use Rattle.xds_history.specs.References.{snapshots_of};
+ghost use Rattle.xds_history.specs.Right.{Right};
+ghost use Rattle.xds_history.specs.Setting.{setting_of};
+ghost use Rattle.book_progress.specs.ProgressKept.{most_entries};
+ghost use Rattle.text_law.specs.TextLaw.{text_of};
+ghost use Rattle.xds_replay.specs.Commands.{command_of};
+ghost use Rattle.xds_replay.specs.declared.commands.Command.{Command as Asked};
+ghost use Rattle.xds_replay.specs.Outcomes.{IsBegun, IsDone, IsWritten, WritesNothing, totals_of};
 
-use crate::play::{first_unplayed, play};
-use crate::reader::read_session;
-use crate::report::{OutFault, write_report};
-use crate::session::{Cause, Session, SessionFault};
+use crate::commands::{Command, command_of};
+use crate::session_input::{generated_input, session_in};
+use crate::statuses::{Status, status_of, written};
+use header_match::Patterns;
+use report_law::{one_report, one_totals};
+use report_writer::write_report;
+use session_generator::write_session;
+use session_lines::Session;
+use session_player::{Played, play};
 use std::alloc::Global;
+use std::sync::Wait;
+use totals_writer::write_totals;
 use xc_base::{ReadFault, Sink, Source, read_all};
 
 /// A session has no more bytes; one more is read, so that it is seen that there are more.
 const MOST_READ: u32 = 67_108_865;
 
-/// How a run ended.
-#[derive(Clone, Copy, Debug, PartialEq, Eq)]
-pub enum Status {
-    /// The session was played, and its report is written.
-    Done,
-    /// The words aren't those of a command.
-    Words,
-    /// The bytes aren't a session that is played: the first fault, and the number of its line.
-    Session { line: u32, cause: Cause },
-    /// The source failed.
-    ReadFault,
-    /// The sink failed. What is written is a front of the report.
-    WriteFault,
-    /// There was no memory. What is written is nothing or a front of the report.
-    Memory,
+/// Writes the report of what was played of a session.
+fn report<K: Sink>(alloc: Global, session: &Session, played: &Played, sink: &mut K) -> Status
+    requires right { Right (setting_of session.now.boot session.now.target) played.now.journal.entries }
+    requires snapshots { values_of played.now.history.tickets ≡ snapshots_of (pages (setting_of session.now.boot session.now.target) played.now.journal.entries) }
+    requires few { length played.now.history.tickets ≤ most_entries }
+    ensures answers { IsWritten result }
+    ensures done { result ≡ Status.Done → Appends (K.held sink.old) (K.held sink.new) (text_of session.now played.now.journal.entries) }
+    ensures begun { (result ≡ Status.WriteFault) ⊎ (result ≡ Status.Memory) → AppendsPrefix (K.held sink.old) (K.held sink.new) (text_of session.now played.now.journal.entries) }
+    ensures later { K.faults sink.old ≤ K.faults sink.new }
+    ensures cause { result ≡ Status.WriteFault → Rose (K.faults sink.old) (K.faults sink.new) }
+{
+    one_report();
+    written(write_report(alloc, &session.boot, &played.journal, &played.history, sink))
 }
 
-fn is_run(words: &[String]) -> bool
-    ensures { result ≡ is_run words.now }
+/// Writes the totals of what was played of a session of so many rounds.
+fn total<K: Sink>(
+    alloc: Global,
+    rounds: u32,
+    session: &Session,
+    played: &Played,
+    sink: &mut K,
+) -> Status
+    requires right { Right (setting_of session.now.boot session.now.target) played.now.journal.entries }
+    requires snapshots { values_of played.now.history.tickets ≡ snapshots_of (pages (setting_of session.now.boot session.now.target) played.now.journal.entries) }
+    requires few { length played.now.history.tickets ≤ most_entries }
+    ensures answers { IsWritten result }
+    ensures done { result ≡ Status.Done → Appends (K.held sink.old) (K.held sink.new) (totals_of rounds session.now played.now.journal.entries) }
+    ensures begun { (result ≡ Status.WriteFault) ⊎ (result ≡ Status.Memory) → AppendsPrefix (K.held sink.old) (K.held sink.new) (totals_of rounds session.now played.now.journal.entries) }
+    ensures later { K.faults sink.old ≤ K.faults sink.new }
+    ensures cause { result ≡ Status.WriteFault → Rose (K.faults sink.old) (K.faults sink.new) }
 {
-    match words {
-        [word] => word.as_str() == "run",
-        _ => false,
-    }
-}
-
-fn status_of(fault: SessionFault) -> Status
-    ensures { result ≡ status_of fault }
-{
-    match fault {
-        SessionFault::Script { line, cause } => Status::Session { line, cause },
-        SessionFault::Memory => Status::Memory,
-    }
-}
-
-// The session that the bytes spell, where each line of it is played.
-#[tactic(auto, unfolding(crate::specs::Played::played_session))]
-fn read_played(alloc: Global, bytes: &[u8]) -> Result<Session, SessionFault>
-    ensures { Gives (λ session. session) result (played_session bytes.now) }
-{
-    let session = read_session(alloc, bytes)?;
-    match first_unplayed(alloc, &session)? {
-        Some(line) => Err(SessionFault::Script {
-            line,
-            cause: Cause::Unbuilt,
-        }),
-        None => Ok(session),
-    }
+    let _session = session;
+    one_totals();
+    written(write_totals(alloc, rounds, &played.journal, &played.history, sink))
 }
 
 /// Reads a session from the source, plays it, and writes its report to the sink.
-///
-/// `Words` comes where the words aren't the one word `run`, and `Session` where the bytes aren't a
-/// session that is played. A source or a sink that tells nothing of its bytes leaves open what was read
-/// or written.
-pub fn run<S: Source, K: Sink>(
+fn replay<S: Source, K: Sink, P: Patterns, R: Wait + Sync>(
+    rt: &R,
     alloc: Global,
-    words: &[String],
     source: &mut S,
     sink: &mut K,
+    patterns: &mut P,
 ) -> Status
-    // The words are not the one word `run`.
-    ensures words { (result ≡ Status.Words) ↔ (is_run words.now ≡ false) }
-
-    // The bytes spell a session, and what is written is the report of a legal history of it.
-    ensures done { result ≡ Status.Done → IfSome (S.left source.old)
-        (Reports (Appends (K.held sink.old) (K.held sink.new))) }
-
-    // The bytes are no session that is played, and this is the first fault.
+    ensures words { result ≢ Status.Words }
+    ensures done { result ≡ Status.Done → IsDone Asked.Run (S.left source.old) (K.held sink.old) (K.held sink.new) (P.refused patterns.old) (P.refused patterns.new) }
+    ensures begun { (result ≡ Status.WriteFault) ⊎ (result ≡ Status.Memory) → IsBegun Asked.Run (S.left source.old) (K.held sink.old) (K.held sink.new) (P.refused patterns.old) (P.refused patterns.new) }
     ensures session { (line : ℕ) (cause : Cause) → result ≡ Status.Session line cause → IfSome (S.left source.old)
-        (λ bytes. played_session bytes ≡ Err record { line = line; cause = cause }) }
-
-    // Bytes that are no session that is played are refused with their first fault, where the source
-    // didn't fail.
-    ensures refused { is_run words.now ≡ true → ¬ Rose (S.faults source.old) (S.faults source.new) → IfSome (S.left source.old)
-        (λ bytes. (line : ℕ) (cause : Cause) → played_session bytes ≡ Err record { line = line; cause = cause }
+        (λ bytes. session_of bytes ≡ Err record { line = line; cause = cause }) }
+    ensures refused { ¬ Rose (S.faults source.old) (S.faults source.new) → IfSome (S.left source.old)
+        (λ bytes. (line : ℕ) (cause : Cause) → session_of bytes ≡ Err record { line = line; cause = cause }
         → (result ≡ Status.Session line cause) ⊎ (result ≡ Status.Memory)) }
-
+    ensures complete { ¬ Rose (S.faults source.old) (S.faults source.new) → ¬ Rose (K.faults sink.old) (K.faults sink.new) → IfSome (S.left source.old)
+        (λ bytes. (session : SessionValue) → session_of bytes ≡ Ok session → (result ≡ Status.Done) ⊎ (result ≡ Status.Memory)) }
     ensures read { result ≡ Status.ReadFault → Rose (S.faults source.old) (S.faults source.new) }
     ensures write { result ≡ Status.WriteFault → Rose (K.faults sink.old) (K.faults sink.new) }
-
-    // What is written is nothing, or a front of such a report.
-    ensures front { (result ≡ Status.WriteFault) ⊎ (result ≡ Status.Memory) → IfSome (S.left source.old)
-        (Fronts (K.held sink.old) (K.held sink.new)) }
     ensures nothing { WritesNothing result → sink.new ≡ sink.old }
-
-    // A session is played, where neither the source nor the sink failed.
-    ensures complete { is_run words.now ≡ true → ¬ Rose (S.faults source.old) (S.faults source.new)
-        → ¬ Rose (K.faults sink.old) (K.faults sink.new) → IfSome (S.left source.old)
-        (λ bytes. (session : Session) → played_session bytes ≡ Ok session → (result ≡ Status.Done) ⊎ (result ≡ Status.Memory)) }
 {
-    if !is_run(words) {
-        return Status::Words;
-    }
     let bytes = match read_all(alloc, source, MOST_READ) {
         Ok(bytes) => bytes,
         Err(ReadFault::Failed) => return Status::ReadFault,
         Err(ReadFault::Memory) => return Status::Memory,
     };
-    let session = match read_played(alloc, &bytes) {
+    let session = match session_in(alloc, &bytes) {
         Ok(session) => session,
         Err(fault) => return status_of(fault),
     };
-    let (journal, snapshots) = match play(alloc, &session) {
-        Ok(played) => played,
+    match play(rt, alloc, &session, patterns) {
+        Ok(played) => report(alloc, &session, &played, sink),
+        Err(_) => Status::Memory,
+    }
+}
+
+/// Writes the generated session of so many rounds.
+fn generate<K: Sink>(alloc: Global, rounds: u32, sink: &mut K) -> Status
+    requires least { 1 ≤ rounds }
+    requires most { rounds ≤ 1000 }
+    ensures answers { IsWritten result }
+    ensures done { result ≡ Status.Done → IsDone (Asked.Gen rounds) None (K.held sink.old) (K.held sink.new) [] [] }
+    ensures begun { (result ≡ Status.WriteFault) ⊎ (result ≡ Status.Memory) → IsBegun (Asked.Gen rounds) None (K.held sink.old) (K.held sink.new) [] [] }
+    ensures write { result ≡ Status.WriteFault → Rose (K.faults sink.old) (K.faults sink.new) }
+{
+    written(write_session(alloc, rounds, sink))
+}
+
+/// Plays the generated session of so many rounds, and writes its totals.
+fn load<K: Sink, P: Patterns, R: Wait + Sync>(
+    rt: &R,
+    alloc: Global,
+    rounds: u32,
+    sink: &mut K,
+    patterns: &mut P,
+) -> Status
+    requires least { 1 ≤ rounds }
+    requires most { rounds ≤ 1000 }
+    ensures answers { IsWritten result }
+    ensures done { result ≡ Status.Done → IsDone (Asked.Load rounds) None (K.held sink.old) (K.held sink.new) (P.refused patterns.old) (P.refused patterns.new) }
+    ensures begun { (result ≡ Status.WriteFault) ⊎ (result ≡ Status.Memory) → IsBegun (Asked.Load rounds) None (K.held sink.old) (K.held sink.new) (P.refused patterns.old) (P.refused patterns.new) }
+    ensures write { result ≡ Status.WriteFault → Rose (K.faults sink.old) (K.faults sink.new) }
+{
+    let session = match generated_input(alloc, rounds) {
+        Ok(session) => session,
         Err(_) => return Status::Memory,
     };
-    match write_report(alloc, &journal, &snapshots, sink) {
-        Ok(()) => Status::Done,
-        Err(OutFault::WriteFault) => Status::WriteFault,
-        Err(OutFault::Memory) => Status::Memory,
+    match play(rt, alloc, &session, patterns) {
+        Ok(played) => total(alloc, rounds, &session, &played, sink),
+        Err(_) => Status::Memory,
+    }
+}
+
+/// Does what the words ask for: `run` reads a session from the source, plays it on this thread in the order of the file, and
+/// writes its report to the sink; `gen N` writes the generated session of N rounds; `load N` plays that session and writes
+/// its totals. The words come without the program's name.
+///
+/// `Words` comes where the words are none of these commands, and `Session` where the bytes are no session, with the first
+/// fault. A source or a sink that tells nothing of its bytes leaves open what was read or written.
+pub fn run<S: Source, K: Sink, P: Patterns, R: Wait + Sync>(
+    rt: &R,
+    alloc: Global,
+    words: &[String],
+    source: &mut S,
+    sink: &mut K,
+    patterns: &mut P,
+) -> Status
+    // The words are those of no command.
+    ensures words { (result ≡ Status.Words) ↔ (command_of words.now ≡ None) }
+
+    // The command did its work: what is written is the report of a legal history of the session that the bytes spell, the
+    // generated session, or the totals of a legal history of it.
+    ensures done { (command : Asked) → command_of words.now ≡ Some command → result ≡ Status.Done
+        → IsDone command (S.left source.old) (K.held sink.old) (K.held sink.new) (P.refused patterns.old) (P.refused patterns.new) }
+
+    // What is written is nothing, or a prefix of such a text.
+    ensures begun { (command : Asked) → command_of words.now ≡ Some command → (result ≡ Status.WriteFault) ⊎ (result ≡ Status.Memory)
+        → IsBegun command (S.left source.old) (K.held sink.old) (K.held sink.new) (P.refused patterns.old) (P.refused patterns.new) }
+
+    // The words are `run`, the bytes are no session, and this is the first fault.
+    ensures session { (line : ℕ) (cause : Cause) → result ≡ Status.Session line cause → (command_of words.now ≡ Some Asked.Run) × IfSome (S.left source.old)
+        (λ bytes. session_of bytes ≡ Err record { line = line; cause = cause }) }
+
+    // Bytes that are no session are refused with their first fault, where the source didn't fail.
+    ensures refused { command_of words.now ≡ Some Asked.Run → ¬ Rose (S.faults source.old) (S.faults source.new) → IfSome (S.left source.old)
+        (λ bytes. (line : ℕ) (cause : Cause) → session_of bytes ≡ Err record { line = line; cause = cause }
+        → (result ≡ Status.Session line cause) ⊎ (result ≡ Status.Memory)) }
+
+    // A session is played and reported, where neither the source nor the sink failed.
+    ensures complete { command_of words.now ≡ Some Asked.Run → ¬ Rose (S.faults source.old) (S.faults source.new) → ¬ Rose (K.faults sink.old) (K.faults sink.new) → IfSome (S.left source.old)
+        (λ bytes. (session : SessionValue) → session_of bytes ≡ Ok session → (result ≡ Status.Done) ⊎ (result ≡ Status.Memory)) }
+
+    // The generated session is written, or its totals, where the sink didn't fail.
+    ensures written { (command : Asked) → command_of words.now ≡ Some command → command ≢ Asked.Run → ¬ Rose (K.faults sink.old) (K.faults sink.new) → (result ≡ Status.Done) ⊎ (result ≡ Status.Memory) }
+
+    ensures read { result ≡ Status.ReadFault → Rose (S.faults source.old) (S.faults source.new) }
+    ensures write { result ≡ Status.WriteFault → Rose (K.faults sink.old) (K.faults sink.new) }
+    ensures nothing { WritesNothing result → sink.new ≡ sink.old }
+{
+    match command_of(words) {
+        None => Status::Words,
+        Some(Command::Run) => replay(rt, alloc, source, sink, patterns),
+        Some(Command::Gen(rounds)) => generate(alloc, rounds, sink),
+        Some(Command::Load(rounds)) => load(rt, alloc, rounds, sink, patterns),
     }
 }

@@ -20,7 +20,7 @@ pub fn address(alloc: Global, text: &str) -> Result<Address, AddressFault>
     if !is_address(text) {
         return Err(AddressFault::NotNumeric);
     }
-    let text = Text::lowered(alloc, text)?;
+    let text = Text::lowercase(alloc, text)?;
     Ok(Address { text })
 }
 
@@ -34,12 +34,13 @@ pub fn address_of(alloc: Global, host: &str, port: u32) -> Result<Address, Addre
     if !is_numeric_host(host) || !is_in_port_range(u64::from(port)) {
         return Err(AddressFault::NotNumeric);
     }
-    let text = spelled(alloc, host, port)?;
-    let text = Text::lowered(alloc, &text)?;
+    let text = address_string(alloc, host, port)?;
+    let text = Text::lowercase(alloc, &text)?;
     Ok(Address { text })
 }
 
-fn spelled(alloc: Global, host: &str, port: u32) -> Result<String, AllocError>
+/// The text of the host and the port: a host with a colon stands in brackets.
+fn address_string(alloc: Global, host: &str, port: u32) -> Result<String, AllocError>
     ensures { IfOk result (λ s. string_bytes s ≡ address_text host.now port) }
 {
     if host.as_bytes().contains(&b':') {
@@ -60,13 +61,15 @@ pub fn is_numeric_host(host: &str) -> bool
     is_ipv4(host) || is_ipv6(host)
 }
 
+/// Whether the text is four decimal numbers 0 to 255 joined by dots.
 fn is_ipv4(host: &str) -> bool
     ensures { result ≡ is_ipv4 host.now }
 {
     host.parse::<Ipv4Addr>().is_ok()
 }
 
-// std's parser takes an IPv4 tail, too.
+/// Whether the text is an IPv6 host. std's parser takes one that ends in an IPv4 host, too: such a text has a
+/// dot and is refused first.
 fn is_ipv6(host: &str) -> bool
     ensures { result ≡ is_ipv6 host.now }
 {
@@ -76,12 +79,14 @@ fn is_ipv6(host: &str) -> bool
     host.parse::<Ipv6Addr>().is_ok()
 }
 
+/// Whether the number is a port, 1 to 65,535.
 fn is_in_port_range(port: u64) -> bool
     ensures { result ≡ is_in_port_range port }
 {
     0 < port && port <= 65_535
 }
 
+/// Whether the text is a port in decimal digits, without a leading zero.
 #[tactic(auto, unfolding(crate::specs::Addresses::is_port))]
 fn is_port(text: &str) -> bool
     ensures { result ≡ is_port text.now }
@@ -92,6 +97,7 @@ fn is_port(text: &str) -> bool
     }
 }
 
+/// Whether the text is a colon and a port.
 fn is_colon_port(text: &str) -> bool
     ensures { result ≡ is_colon_port text.now }
 {
@@ -101,6 +107,7 @@ fn is_colon_port(text: &str) -> bool
     }
 }
 
+/// Whether the text is an IPv4 host, a colon and a port.
 fn is_ipv4_with_port(text: &str) -> bool
     ensures { result ≡ is_ipv4_with_port text.now }
 {
@@ -110,7 +117,7 @@ fn is_ipv4_with_port(text: &str) -> bool
     }
 }
 
-// What stands after an opening bracket.
+/// Whether the text is what stands after an opening bracket: an IPv6 host, a closing bracket, a colon and a port.
 fn is_ipv6_with_port(text: &str) -> bool
     ensures { result ≡ is_ipv6_with_port text.now }
 {
@@ -120,6 +127,7 @@ fn is_ipv6_with_port(text: &str) -> bool
     }
 }
 
+/// Whether the text is an address: a bracket tells an IPv6 host.
 fn is_address(text: &str) -> bool
     ensures value { result ≡ is_address text.now }
     ensures numeric { IsTrue result ↔ IsAddress text.now }
@@ -130,7 +138,7 @@ fn is_address(text: &str) -> bool
     }
 }
 
-/// Which texts are addresses, and that an address reads as itself.
+/// The law of addresses: which texts are addresses, and that each address reads as itself. The call does nothing.
 pub fn addresses_are_numeric()
     ensures { AddressesAreNumeric }
 {}

@@ -1,7 +1,7 @@
 use Rattle.std.proofs.Common.{◌≡◌, suc, ◌+◌, arith, Some, sym, ◌∙◌, ap, refl}
 use Rattle.std.proofs.lemmas.Result.{err_from_is_err_and, on_ok_weaker}
-use Rattle.aggregate_expand.specs.Names.{with_names}
-use Rattle.aggregate_expand.specs.Walk.{room_at}
+use Rattle.aggregate_expand.specs.LookedUp.{with_names}
+use Rattle.aggregate_expand.specs.LeafWalk.{room_at}
 use Rattle.aggregate_expand.proofs.WalkLemmas.{IsFresh, fresh, seen_before, nothing_added, no_room, under_way, under_way_more, under_way_fails, under_way_adds, marked_done, marked_adds, leaf_free, leaf_ends, leaf_done, all_free, all_found, all_done}
 use Rattle.aggregate_expand.proofs.expand.+walk.Goals as goal
 

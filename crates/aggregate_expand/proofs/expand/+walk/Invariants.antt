@@ -1,6 +1,6 @@
 use Rattle.std.proofs.Common.{◌≡◌, ◌+◌, length}
 use Rattle.std.specs.Prelude.{◌≢◌, AllPairs}
-use Rattle.aggregate_expand.specs.Walk.{room_at}
+use Rattle.aggregate_expand.specs.LeafWalk.{room_at}
 use Rattle.aggregate_expand.proofs.WalkLemmas.{IsUnderWay}
 use Rattle.aggregate_expand.proofs.expand.+walk.Given as goal
 

@@ -1,4 +1,4 @@
-use Rattle.cluster_tree.proofs.UserLemmas.{read_more, read_all}
+use Rattle.cluster_tree.proofs.ClusterLemmas.{read_more, read_all}
 use Rattle.cluster_tree.proofs.trees.users_of.Goals as goal
 
 pub loop-place-preserved : goal.loop-place-preserved
@@ -7,4 +7,4 @@ loop-place-preserved c =
     c.in_ok-add_users.ensures.grows (c.in_ok-add_users.ensures.entry, c.in_ok-add_users.ensures.serving)
 
 pub returns : goal.returns
-returns c = read_all c.loop-place.users c.args.clusters.now c.loop-place.place c.loop-place-test.false c.loop-place.invariant
+returns c = rw (c.note.ensures) (read_all c.loop-place.users c.args.clusters.now c.loop-place.place c.loop-place-test.false c.loop-place.invariant)

@@ -1,5 +1,5 @@
 use Rattle.std.proofs.Common.{◌≡◌, take}
-use Rattle.cluster_tree.specs.Clusters.{views_of}
+use Rattle.cluster_tree.specs.StandingTrees.{views_of}
 use Rattle.cluster_tree.proofs.trees.views_of.Given as goal
 
 abbrev pub invariant-loop-cluster : goal.invariant-loop-cluster

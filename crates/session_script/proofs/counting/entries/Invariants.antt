@@ -1,5 +1,5 @@
 use Rattle.std.proofs.Common.{◌≡◌, take}
-use Rattle.session_script.specs.Before.{entries}
+use Rattle.session_lines.specs.Before.{entries}
 use Rattle.session_script.proofs.counting.entries.Given as goal
 
 abbrev pub invariant-loop-line : goal.invariant-loop-line

@@ -1,6 +1,6 @@
 use Rattle.std.proofs.Common.{arith, length-drop}
 use Rattle.std.proofs.lemmas.List.{take_rest}
-use Rattle.xc_base.proofs.StreamLemmas.{appends_more, front_kept}
+use Rattle.xc_base.proofs.StreamLemmas.{appends_more, prefix_kept}
 use Rattle.xc_base.proofs.streams.write_all.Goals as goal
 
 pub loop-at-preserved : goal.loop-at-preserved
@@ -10,6 +10,6 @@ loop-at-preserved g c = record {
   later = omega (arith, c.loop-at.invariant.later, c.in-Ok.ensures.cause.later);
 }
 
-pub returns-in-Err-clause-front : goal.returns-in-Err-clause-front
-returns-in-Err-clause-front g c =
-    front_kept (g.K.Sink.held c.args.sink.now) _ (g.K.Sink.held c.write.new.self) c.args.text.now c.loop-at.at c.loop-at.invariant.bytes c.in-Err.ensures.bytes
+pub returns-in-Err-clause-prefix : goal.returns-in-Err-clause-prefix
+returns-in-Err-clause-prefix g c =
+    prefix_kept (g.K.Sink.held c.args.sink.now) _ (g.K.Sink.held c.write.new.self) c.args.text.now c.loop-at.at c.loop-at.invariant.bytes c.in-Err.ensures.bytes

@@ -1,7 +1,7 @@
 use Rattle.std.proofs.Common.{◌≡◌, true, false, rules, sym, ◌∙◌, subst, cond}
 use Rattle.std.specs.Ordering.{nat_cmp, is_eq}
 use Rattle.std.specs.Cmp.Lexicographic.{slice_cmp}
-use Rattle.aggregate_expand.specs.Names.{Name, has_name}
+use Rattle.aggregate_expand.specs.LookedUp.{Name, has_name}
 use Rattle.aggregate_expand.proofs.FoundLemmas.{in_keys, index_more, index_back}
 use Rattle.aggregate_expand.proofs.found.Found.add.Goals as goal
 

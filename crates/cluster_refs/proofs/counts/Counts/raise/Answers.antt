@@ -1,5 +1,5 @@
 use Rattle.std.proofs.Common.{◌≡◌, ◌+◌, arith, rules, ap, Some}
-use Rattle.cluster_refs.specs.Names.{count_of}
+use Rattle.cluster_refs.specs.ReferredNames.{count_of}
 use Rattle.cluster_refs.proofs.NameLemmas.{Changes, change_from, raised, all_counted}
 use Rattle.cluster_refs.proofs.counts.Counts.raise.Goals as goal
 

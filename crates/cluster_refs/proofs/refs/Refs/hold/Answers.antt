@@ -1,7 +1,7 @@
 use Rattle.std.proofs.Common.{◌≡◌, ◌∙◌, ap, rules, None}
 use Rattle.std.specs.Map.{lookup}
 use Rattle.std.specs.BTreeMap.{insert_entry}
-use Rattle.cluster_refs.specs.References.{is_call, call_cmp}
+use Rattle.cluster_refs.specs.CallReferences.{is_call, call_cmp}
 use Rattle.cluster_refs.proofs.CallLemmas.{kept_hold}
 use Rattle.cluster_refs.proofs.refs.Refs.hold.Goals as goal
 

@@ -1,5 +1,5 @@
 use Rattle.std.proofs.Common.{◌∙◌, ap, sym, refl, None}
-use Rattle.cluster_refs.specs.References.{hold_of}
+use Rattle.cluster_refs.specs.CallReferences.{hold_of}
 use Rattle.cluster_refs.proofs.CallLemmas.{kept_release, sets_hold, had_none}
 use Rattle.cluster_refs.proofs.refs.Refs.release.Goals as goal
 

@@ -1,5 +1,7 @@
-use Rattle.std.proofs.Common.{Result, Ok, Err}
+use Rattle.std.proofs.Common.{◌≡◌, ◌∙◌, [], map, ap, rules, Result, Ok, Err}
 use Rattle.std.specs.Prelude.{IfOk}
+use Rattle.std.specs.Map.{values_of}
+use Rattle.cluster_refs.specs.PinnedNames.{put_in, put_pins}
 use Rattle.cluster_refs.proofs.RetainedLemmas.{retained}
 use Rattle.cluster_refs.proofs.refs.Refs.retained.Goals as goal
 
@@ -9,4 +11,13 @@ by_both (Ok x) P Q R gives p q = gives x p q
 by_both (Err fault) P Q R gives p q = tt
 
 pub returns : goal.returns
-returns c = by_both c.names.result _ _ _ (λ names counted rising. retained (record { pins = c.self.inside.pins.entries; holds = c.self.inside.holds.entries }) c.args.self.now c.self.inside.counts names c.self.view_is c.self.invariant counted rising) c.names.ensures.counted c.names.ensures.rising
+returns c =
+    let listed : map (λ pin. pin.now) c.as_slice-2.result.now ≡ values_of c.self.inside.pins.entries = search rules in
+    let held : c.put_names.new.names.keys ≡ put_in [] c.in_ok-held.held = search rules in
+    let keys : c.put_pins.new.names.keys ≡ put_pins (put_in [] c.in_ok-held.held) [] (values_of c.self.inside.pins.entries) =
+    c.in_ok-put_pins.ensures ∙ ap (λ ps. put_pins c.put_names.new.names.keys [] ps) listed ∙ ap (λ ns. put_pins ns [] (values_of c.self.inside.pins.entries)) held in
+    by_both c.in_order.result _ _ _
+    (λ names are rising.
+    retained (record { pins = c.self.inside.pins.entries; holds = c.self.inside.holds.entries }) c.args.self.now c.self.inside.counts c.in_ok-held.held c.put_pins.new.names.keys names
+    c.self.view_is c.self.invariant c.in_ok-held.ensures keys are rising)
+    c.in_order.ensures.names c.in_order.ensures.rising

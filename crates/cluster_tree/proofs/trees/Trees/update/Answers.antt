@@ -1,23 +1,42 @@
-use Rattle.std.proofs.Common.{◌≡◌, List, ap, ◌∙◌, subst}
+use Rattle.std.proofs.Common.{◌≡◌, Bool, List, length, sym, ap, ◌∙◌, subst, arith}
+use Rattle.std.proofs.lemmas.Grind.{common_steps}
 use Rattle.xds_config.specs.declared.config.Config.{Config}
 use Rattle.xds_config.specs.declared.config.ClusterEntry.{ClusterEntry}
-use Rattle.cluster_tree.specs.declared.cluster.Cluster.{Cluster}
-use Rattle.cluster_tree.specs.Clusters.{clusters_after}
-use Rattle.cluster_tree.specs.Users.{AreRead}
-use Rattle.cluster_tree.proofs.ForestLemmas.{indexed_after, updated_with}
+use Rattle.cluster_tree.specs.StandingTrees.{Forest, ChangesAt, clusters_after}
+use Rattle.cluster_tree.specs.ClusterUsers.{AreIndexed, OthersStay}
+use Rattle.cluster_tree.proofs.ForestLemmas.{indexed_after, others_stay, updated_with, views_pickable}
 use Rattle.cluster_tree.proofs.trees.Trees.update.Goals as goal
 
-pub invariant_of-self : goal.invariant_of-self
-invariant_of-self c =
-    let is : c.in_ok-clusters.clusters.items ≡ clusters_after c.args.now c.args.reports.now.entries c.args.config.now.clusters c.self.inside.clusters.items =
-    c.in_ok-clusters.ensures ∙ (ap (λ (es : List ClusterEntry). clusters_after c.args.now c.args.reports.now.entries es c.deref.result.now) (c.as_slice-entries.ensures ∙ ap (λ (x : Config). x.clusters) c.get.ensures) ∙
-    ap (λ (cs : List Cluster). clusters_after c.args.now c.args.reports.now.entries c.args.config.now.clusters cs) c.deref.ensures.value) in
-    indexed_after c.args.now c.args.reports.now.entries c.args.config.now.clusters c.self.inside.users c.in_ok-users.users c.self.inside.clusters.items c.in_ok-clusters.clusters.items c.requires.clusters c.requires.rising c.self.invariant is
-    (subst (λ (cs : List Cluster). AreRead c.in_ok-users.users cs) c.deref-2.ensures.value c.in_ok-users.ensures)
+pub clusters_after-requires-clause-others : goal.clusters_after-requires-clause-others
+clusters_after-requires-clause-others c =
+    let asked : ChangesAt c.args.changed.now c.args.reports.now.entries (record { now = c.self.inside.time; clusters = c.self.inside.clusters.items }) =
+    subst (λ (f : Forest). ChangesAt c.args.changed.now c.args.reports.now.entries f) (sym c.self.view_is) c.requires.changes in
+    let long : length c.in_ok-marks.marks.items ≡ length c.self.inside.clusters.items = grind (arith, common_steps) in
+    subst (λ (ms : List Bool). OthersStay c.args.self.now.now c.args.now c.args.reports.now.entries ms c.args.self.now.clusters) (sym c.deref.ensures.value)
+    (subst (λ (f : Forest). OthersStay f.now c.args.now c.args.reports.now.entries c.in_ok-marks.marks.items f.clusters) c.self.view_is
+    (others_stay c.self.inside.users c.args.changed.now c.in_ok-marks.marks.items c.self.inside.time c.args.now asked.0 c.args.reports.now.entries c.self.inside.clusters.items asked.1.0 c.self.invariant c.in_ok-marks.ensures.marked long asked.1.1 asked.2))
+
+pub invariant_of-self-2 : goal.invariant_of-self-2
+invariant_of-self-2 c =
+    let is : c.in_ok-next.next.clusters.items ≡ clusters_after c.args.now c.args.reports.now.entries c.args.config.now.clusters c.self.inside.clusters.items =
+    c.in_ok-next.ensures.clusters ∙ (ap (λ (es : List ClusterEntry). clusters_after c.args.now c.args.reports.now.entries es c.args.self.now.clusters) (c.as_slice-entries.ensures ∙ ap (λ (x : Config). x.clusters) c.get.ensures) ∙
+    ap (λ (f : Forest). clusters_after c.args.now c.args.reports.now.entries c.args.config.now.clusters f.clusters) (sym c.self.view_is)) in
+    indexed_after c.args.now c.args.reports.now.entries c.args.config.now.clusters c.self.inside.users c.follow_users.new.users c.self.inside.clusters.items c.in_ok-next.next.clusters.items c.requires.lawful.clusters c.requires.lawful.rising c.self.invariant is c.in_ok-follow_users.ensures
+
+pub returns-clause-pickable : goal.returns-clause-pickable
+returns-clause-pickable c =
+    let is : c.in_ok-next.next.clusters.items ≡ clusters_after c.args.now c.args.reports.now.entries c.args.config.now.clusters c.self.inside.clusters.items =
+    c.in_ok-next.ensures.clusters ∙ (ap (λ (es : List ClusterEntry). clusters_after c.args.now c.args.reports.now.entries es c.args.self.now.clusters) (c.as_slice-entries.ensures ∙ ap (λ (x : Config). x.clusters) c.get.ensures) ∙
+    ap (λ (f : Forest). clusters_after c.args.now c.args.reports.now.entries c.args.config.now.clusters f.clusters) (sym c.self.view_is)) in
+    let indexed : AreIndexed c.follow_users.new.users c.in_ok-next.next.clusters.items =
+    indexed_after c.args.now c.args.reports.now.entries c.args.config.now.clusters c.self.inside.users c.follow_users.new.users c.self.inside.clusters.items c.in_ok-next.next.clusters.items c.requires.lawful.clusters c.requires.lawful.rising c.self.invariant is c.in_ok-follow_users.ensures in
+    rw (c.in_ok-views.ensures, c.deref-2.ensures.value)
+    (views_pickable c.follow_users.new.users c.args.now c.args.reports.now.entries c.in_ok-next.next.clusters.items c.self.inside.clusters.items indexed
+    (updated_with c.args.now c.args.reports.now.entries c.args.config.now.clusters c.self.inside.clusters.items c.in_ok-next.next.clusters.items is))
 
 pub returns-clause-updated : goal.returns-clause-updated
-returns-clause-updated c =
-    let is : c.in_ok-clusters.clusters.items ≡ clusters_after c.args.now c.args.reports.now.entries c.args.config.now.clusters c.self.inside.clusters.items =
-    c.in_ok-clusters.ensures ∙ (ap (λ (es : List ClusterEntry). clusters_after c.args.now c.args.reports.now.entries es c.deref.result.now) (c.as_slice-entries.ensures ∙ ap (λ (x : Config). x.clusters) c.get.ensures) ∙
-    ap (λ (cs : List Cluster). clusters_after c.args.now c.args.reports.now.entries c.args.config.now.clusters cs) c.deref.ensures.value) in
-    (c.self.inside.clusters.items, updated_with c.args.now c.args.reports.now.entries c.args.config.now.clusters c.self.inside.clusters.items c.in_ok-clusters.clusters.items is)
+returns-clause-updated c = (
+  c.args.self.now.clusters,
+  updated_with c.args.now c.args.reports.now.entries c.args.config.now.clusters c.args.self.now.clusters c.in_ok-next.next.clusters.items
+      (c.in_ok-next.ensures.clusters ∙ ap (λ (es : List ClusterEntry). clusters_after c.args.now c.args.reports.now.entries es c.args.self.now.clusters) (c.as_slice-entries.ensures ∙ ap (λ (x : Config). x.clusters) c.get.ensures)),
+)

@@ -1,27 +1,110 @@
-use Rattle.std.proofs.Common.{◌≡◌, List, sym, ap, ◌∙◌, subst}
-use Rattle.xc_base.specs.declared.names.Key.{Key}
-use Rattle.xds_name.specs.declared.target.Target.{Target}
-use Rattle.dep_manager.specs.Reach.{reach}
-use Rattle.dep_manager.specs.Resources.{resources}
-use Rattle.dep_manager.specs.Watching.{Held, IsKept}
+use Rattle.std.proofs.Common.{length, sym, ap, ◌∙◌, subst}
+use Rattle.config_assembly.specs.Reach.{reach}
+use Rattle.config_assembly.specs.ReachedResources.{resources}
+use Rattle.config_assembly.specs.Watching.{IsKept}
+use Rattle.dep_manager.specs.EndpointNews.{are_endpoints}
+use Rattle.dep_manager.specs.Outcomes.{IsOutcomeBy}
+use Rattle.dep_manager.proofs.KeptLemmas.{kept_at, none_counted}
 use Rattle.dep_manager.proofs.deps.Deps.update.Goals as goal
 
-pub watch_reached-requires : goal.watch_reached-requires
-watch_reached-requires g c =
-    let before : c.as_slice-2.result.now ≡ c.args.self.now.reached = c.as_slice-2.ensures ∙ ap (λ h. h.reached) c.self.view_is in
-    let now : c.as_slice-3.result.now ≡ reach (resources c.args.self.now.target c.args.boot.now.authorities c.args.cache.now) c.args.references.now =
-    c.as_slice-3.ensures ∙ c.in_ok-made.ensures.reached
-    ∙ ap (λ h. reach (resources h.target c.args.boot.now.authorities c.args.cache.now) c.as_slice.result.now) c.self.view_is
-    ∙ ap (reach (resources c.args.self.now.target c.args.boot.now.authorities c.args.cache.now)) c.as_slice.ensures in
-    subst (λ keys. IsKept c.args.cache.now keys c.as_slice-3.result.now) (sym before) (subst (IsKept c.args.cache.now c.args.self.now.reached) (sym now) c.requires)
+pub begin-requires : goal.begin-requires
+begin-requires g c =
+    subst (λ d. IsKept c.args.cache.now d.reached (reach (resources d.target c.args.boot.now.authorities c.args.cache.now) c.args.references.now)) (sym c.take_last.ensures.rest) c.requires.watched
 
-pub returns-clause-reached : goal.returns-clause-reached
-returns-clause-reached g c =
-    c.in_ok-made.ensures.reached
-    ∙ ap (λ h. reach (resources h.target c.args.boot.now.authorities c.args.cache.now) c.as_slice.result.now) c.self.view_is
-    ∙ ap (reach (resources c.args.self.now.target c.args.boot.now.authorities c.args.cache.now)) c.as_slice.ensures
+pub follow-requires : goal.follow-requires
+follow-requires g c = ap are_endpoints (sym c.as_slice.ensures) ∙ c.in-Some.ensures.endpoints
 
-pub returns-clause-held : goal.returns-clause-held
-returns-clause-held g c =
-    let make : Target → List Key → Held = λ target reached. record { target = target; reached = reached } in
-    ap (λ target. make target c.in_ok-self-inside.field-0) (ap (λ h. h.target) c.self.view_is) ∙ ap (make c.args.self.now.target) (c.in_ok-self-inside.ensures ∙ c.as_slice-4.ensures)
+pub returns-in_ok-outcome-in-Some-clause-reached : goal.returns-in_ok-outcome-in-Some-clause-reached
+returns-in_ok-outcome-in-Some-clause-reached g c =
+    let (known, is, changes) = kept_at c.args.boot.now.authorities c.args.self.now c.take_last.new.self c.args.cache.now c.args.changed.now c.in-Some.last c.take_last.ensures.rest c.in-Some.ensures.kept c.requires.changed in
+    (subst (λ d. IsOutcomeBy (resources d.target c.args.boot.now.authorities c.args.cache.now) c.args.references.now c.in_ok-outcome-in-Some.outcome) c.take_last.ensures.rest
+    (subst (λ names. IsOutcomeBy (resources c.take_last.new.self.target c.args.boot.now.authorities c.args.cache.now) names c.in_ok-outcome-in-Some.outcome) (sym c.in-Some.ensures.references)
+    (c.in_ok-outcome-in-Some.ensures.outcome c.args.boot.now.authorities known is changes))).reached_are
+
+pub returns-in_ok-outcome-in-Some-clause-missing : goal.returns-in_ok-outcome-in-Some-clause-missing
+returns-in_ok-outcome-in-Some-clause-missing g c =
+    let (known, is, changes) = kept_at c.args.boot.now.authorities c.args.self.now c.take_last.new.self c.args.cache.now c.args.changed.now c.in-Some.last c.take_last.ensures.rest c.in-Some.ensures.kept c.requires.changed in
+    (subst (λ d. IsOutcomeBy (resources d.target c.args.boot.now.authorities c.args.cache.now) c.args.references.now c.in_ok-outcome-in-Some.outcome) c.take_last.ensures.rest
+    (subst (λ names. IsOutcomeBy (resources c.take_last.new.self.target c.args.boot.now.authorities c.args.cache.now) names c.in_ok-outcome-in-Some.outcome) (sym c.in-Some.ensures.references)
+    (c.in_ok-outcome-in-Some.ensures.outcome c.args.boot.now.authorities known is changes))).missing_is
+
+pub returns-in_ok-outcome-in-Some-clause-config : goal.returns-in_ok-outcome-in-Some-clause-config
+returns-in_ok-outcome-in-Some-clause-config g c =
+    let (known, is, changes) = kept_at c.args.boot.now.authorities c.args.self.now c.take_last.new.self c.args.cache.now c.args.changed.now c.in-Some.last c.take_last.ensures.rest c.in-Some.ensures.kept c.requires.changed in
+    (subst (λ d. IsOutcomeBy (resources d.target c.args.boot.now.authorities c.args.cache.now) c.args.references.now c.in_ok-outcome-in-Some.outcome) c.take_last.ensures.rest
+    (subst (λ names. IsOutcomeBy (resources c.take_last.new.self.target c.args.boot.now.authorities c.args.cache.now) names c.in_ok-outcome-in-Some.outcome) (sym c.in-Some.ensures.references)
+    (c.in_ok-outcome-in-Some.ensures.outcome c.args.boot.now.authorities known is changes))).config_is
+
+pub returns-in_ok-outcome-in-Some-clause-whole : goal.returns-in_ok-outcome-in-Some-clause-whole
+returns-in_ok-outcome-in-Some-clause-whole g c =
+    let (known, is, changes) = kept_at c.args.boot.now.authorities c.args.self.now c.take_last.new.self c.args.cache.now c.args.changed.now c.in-Some.last c.take_last.ensures.rest c.in-Some.ensures.kept c.requires.changed in
+    (subst (λ d. IsOutcomeBy (resources d.target c.args.boot.now.authorities c.args.cache.now) c.args.references.now c.in_ok-outcome-in-Some.outcome) c.take_last.ensures.rest
+    (subst (λ names. IsOutcomeBy (resources c.take_last.new.self.target c.args.boot.now.authorities c.args.cache.now) names c.in_ok-outcome-in-Some.outcome) (sym c.in-Some.ensures.references)
+    (c.in_ok-outcome-in-Some.ensures.outcome c.args.boot.now.authorities known is changes))).whole
+
+pub returns-in_ok-outcome-in-Some-clause-lawful : goal.returns-in_ok-outcome-in-Some-clause-lawful
+returns-in_ok-outcome-in-Some-clause-lawful g c =
+    let (known, is, changes) = kept_at c.args.boot.now.authorities c.args.self.now c.take_last.new.self c.args.cache.now c.args.changed.now c.in-Some.last c.take_last.ensures.rest c.in-Some.ensures.kept c.requires.changed in
+    (subst (λ d. IsOutcomeBy (resources d.target c.args.boot.now.authorities c.args.cache.now) c.args.references.now c.in_ok-outcome-in-Some.outcome) c.take_last.ensures.rest
+    (subst (λ names. IsOutcomeBy (resources c.take_last.new.self.target c.args.boot.now.authorities c.args.cache.now) names c.in_ok-outcome-in-Some.outcome) (sym c.in-Some.ensures.references)
+    (c.in_ok-outcome-in-Some.ensures.outcome c.args.boot.now.authorities known is changes))).lawful
+
+pub returns-in_ok-outcome-in-Some-clause-watched : goal.returns-in_ok-outcome-in-Some-clause-watched
+returns-in_ok-outcome-in-Some-clause-watched g c =
+    let (known, is, changes) = kept_at c.args.boot.now.authorities c.args.self.now c.take_last.new.self c.args.cache.now c.args.changed.now c.in-Some.last c.take_last.ensures.rest c.in-Some.ensures.kept c.requires.changed in
+    c.in_ok-outcome-in-Some.ensures.watched c.args.boot.now.authorities known is changes
+
+pub returns-in_ok-outcome-in-Some-clause-kept : goal.returns-in_ok-outcome-in-Some-clause-kept
+returns-in_ok-outcome-in-Some-clause-kept g c =
+    let (known, is, changes) = kept_at c.args.boot.now.authorities c.args.self.now c.take_last.new.self c.args.cache.now c.args.changed.now c.in-Some.last c.take_last.ensures.rest c.in-Some.ensures.kept c.requires.changed in
+    c.in_ok-outcome-in-Some.ensures.kept c.args.boot.now.authorities known is changes
+
+pub returns-in_ok-outcome-in-Some-clause-held : goal.returns-in_ok-outcome-in-Some-clause-held
+returns-in_ok-outcome-in-Some-clause-held g c = (c.in_ok-outcome-in-Some.ensures.held.0 ∙ ap (λ d. d.target) c.take_last.ensures.rest, c.in_ok-outcome-in-Some.ensures.held.1)
+
+pub returns-in_ok-outcome-in-None-clause-held : goal.returns-in_ok-outcome-in-None-clause-held
+returns-in_ok-outcome-in-None-clause-held g c = (c.in_ok-outcome-in-None.ensures.held.0 ∙ ap (λ d. d.target) c.take_last.ensures.rest, c.in_ok-outcome-in-None.ensures.held.1)
+
+pub returns-in_ok-outcome-in-None-clause-reached : goal.returns-in_ok-outcome-in-None-clause-reached
+returns-in_ok-outcome-in-None-clause-reached g c =
+    (subst (λ d. IsOutcomeBy (resources d.target c.args.boot.now.authorities c.args.cache.now) c.args.references.now c.in_ok-outcome-in-None.outcome) c.take_last.ensures.rest c.in_ok-outcome-in-None.ensures.outcome).reached_are
+
+pub returns-in_ok-outcome-in-None-clause-missing : goal.returns-in_ok-outcome-in-None-clause-missing
+returns-in_ok-outcome-in-None-clause-missing g c =
+    (subst (λ d. IsOutcomeBy (resources d.target c.args.boot.now.authorities c.args.cache.now) c.args.references.now c.in_ok-outcome-in-None.outcome) c.take_last.ensures.rest c.in_ok-outcome-in-None.ensures.outcome).missing_is
+
+pub returns-in_ok-outcome-in-None-clause-config : goal.returns-in_ok-outcome-in-None-clause-config
+returns-in_ok-outcome-in-None-clause-config g c =
+    (subst (λ d. IsOutcomeBy (resources d.target c.args.boot.now.authorities c.args.cache.now) c.args.references.now c.in_ok-outcome-in-None.outcome) c.take_last.ensures.rest c.in_ok-outcome-in-None.ensures.outcome).config_is
+
+pub returns-in_ok-outcome-in-None-clause-whole : goal.returns-in_ok-outcome-in-None-clause-whole
+returns-in_ok-outcome-in-None-clause-whole g c =
+    (subst (λ d. IsOutcomeBy (resources d.target c.args.boot.now.authorities c.args.cache.now) c.args.references.now c.in_ok-outcome-in-None.outcome) c.take_last.ensures.rest c.in_ok-outcome-in-None.ensures.outcome).whole
+
+pub returns-in_ok-outcome-in-None-clause-lawful : goal.returns-in_ok-outcome-in-None-clause-lawful
+returns-in_ok-outcome-in-None-clause-lawful g c =
+    (subst (λ d. IsOutcomeBy (resources d.target c.args.boot.now.authorities c.args.cache.now) c.args.references.now c.in_ok-outcome-in-None.outcome) c.take_last.ensures.rest c.in_ok-outcome-in-None.ensures.outcome).lawful
+
+pub returns-in_ok-outcome-in-None-clause-still : goal.returns-in_ok-outcome-in-None-clause-still
+returns-in_ok-outcome-in-None-clause-still g c last kept same none = absurd (cc (sym c.in-None.is ∙ c.take_last.ensures.some last kept same (ap are_endpoints (c.as_slice.ensures ∙ none))))
+
+pub returns-in_ok-outcome-in-None-clause-cost : goal.returns-in_ok-outcome-in-None-clause-cost
+returns-in_ok-outcome-in-None-clause-cost g c last kept same endpoints = absurd (cc (sym c.in-None.is ∙ c.take_last.ensures.some last kept same (ap are_endpoints c.as_slice.ensures ∙ endpoints)))
+
+pub returns-in_err-outcome-in-None-clause-still : goal.returns-in_err-outcome-in-None-clause-still
+returns-in_err-outcome-in-None-clause-still g c last kept same none = absurd (cc (sym c.in-None.is ∙ c.take_last.ensures.some last kept same (ap are_endpoints (c.as_slice.ensures ∙ none))))
+
+pub returns-in_err-outcome-in-None-clause-cost : goal.returns-in_err-outcome-in-None-clause-cost
+returns-in_err-outcome-in-None-clause-cost g c last kept same endpoints = absurd (cc (sym c.in-None.is ∙ c.take_last.ensures.some last kept same (ap are_endpoints c.as_slice.ensures ∙ endpoints)))
+
+pub returns-in_ok-outcome-in-Some-clause-still : goal.returns-in_ok-outcome-in-Some-clause-still
+returns-in_ok-outcome-in-Some-clause-still g c last kept same none = none_counted c.args.steps.now c.follow.new.steps (length c.args.changed.now) c.follow.ensures.cost c.follow.ensures.rises (ap length none)
+
+pub returns-in_ok-outcome-in-Some-clause-cost : goal.returns-in_ok-outcome-in-Some-clause-cost
+returns-in_ok-outcome-in-Some-clause-cost g c last kept same endpoints = c.follow.ensures.cost
+
+pub returns-in_err-outcome-in-Some-clause-still : goal.returns-in_err-outcome-in-Some-clause-still
+returns-in_err-outcome-in-Some-clause-still g c last kept same none = none_counted c.args.steps.now c.follow.new.steps (length c.args.changed.now) c.follow.ensures.cost c.follow.ensures.rises (ap length none)
+
+pub returns-in_err-outcome-in-Some-clause-cost : goal.returns-in_err-outcome-in-Some-clause-cost
+returns-in_err-outcome-in-Some-clause-cost g c last kept same endpoints = c.follow.ensures.cost

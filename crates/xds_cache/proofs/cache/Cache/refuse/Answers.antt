@@ -1,6 +1,6 @@
 use Rattle.std.proofs.Common.{◌∙◌, sym, refl}
 use Rattle.xds_cache.specs.declared.fate.Known.TheVariants.{Invalid}
-use Rattle.xds_cache.specs.Fates.{known_of, refused, settled}
+use Rattle.xds_cache.specs.KeptFates.{known_of, refused, settled}
 use Rattle.xds_cache.proofs.ChangeLemmas.{stays, changes_alike, refused_value, refused_else}
 use Rattle.xds_cache.proofs.cache.Cache.refuse.Goals as goal
 

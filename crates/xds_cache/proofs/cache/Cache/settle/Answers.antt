@@ -1,7 +1,7 @@
 use Rattle.std.proofs.Common.{◌≡◌, ◌∙◌, None, Some, rules, subst, sym, ap}
 use Rattle.std.specs.Prelude.{IsSome}
 use Rattle.xc_keys.proofs.KeyLemmas.{found_alike, changed_alike}
-use Rattle.xds_cache.specs.Fates.{Changes, IsLawfulAt, settled, known_of}
+use Rattle.xds_cache.specs.KeptFates.{Changes, IsLawfulAt, settled, known_of}
 use Rattle.xds_cache.proofs.ChangeLemmas.{changes_to, stays, all_lawful, some_settled, none_settled}
 use Rattle.xds_cache.proofs.cache.Cache.settle.Goals as goal
 

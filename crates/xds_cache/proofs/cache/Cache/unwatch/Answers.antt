@@ -1,6 +1,6 @@
 use Rattle.std.proofs.Common.{None, refl}
 use Rattle.xc_keys.proofs.KeyLemmas.{changed_alike}
-use Rattle.xds_cache.specs.Fates.{unwatched}
+use Rattle.xds_cache.specs.KeptFates.{unwatched}
 use Rattle.xds_cache.proofs.ChangeLemmas.{changes_to, all_lawful}
 use Rattle.xds_cache.proofs.cache.Cache.unwatch.Goals as goal
 

@@ -3,7 +3,7 @@ use Rattle.std.specs.Prelude.{is_some}
 use Rattle.xc_base.specs.declared.names.Key.{Key}
 use Rattle.xc_keys.specs.Keys.{is_key}
 use Rattle.xc_keys.proofs.KeyLemmas.{found_alike, changed_alike}
-use Rattle.xds_cache.specs.Fates.{watched, known_of}
+use Rattle.xds_cache.specs.KeptFates.{watched, known_of}
 use Rattle.xds_cache.specs.declared.fate.Known.TheVariants.{Wanted}
 use Rattle.xds_cache.proofs.ChangeLemmas.{changes_to, stays, all_lawful, watched_again, watched_first, is_some_none}
 use Rattle.xds_cache.proofs.cache.Cache.watch.Goals as goal

@@ -1,5 +1,0 @@
-use Rattle.aggregate_expand.proofs.LawLemmas.{leaves_rest_on_chains}
-use Rattle.aggregate_expand.proofs.laws.leaves_rest_on_chains.Goals as goal
-
-pub returns : goal.returns
-returns c = leaves_rest_on_chains

@@ -1,4 +1,0 @@
-use Rattle.aggregate_expand.proofs.tests.expanded.Given as goal
-
-abbrev pub ghosts-counted : goal.ghosts-counted
-ghosts-counted a = record { name = a.blank.name; parts = a.blank.parts }

@@ -1,0 +1,29 @@
+//! Trees of one cluster.
+use crate::tree_configs::config;
+use cluster_tree::{Trees, UpdatedViews};
+use std::collections::BTreeMap;
+use std::test::Fail;
+use weighted_lb::PickBody;
+use xc_base::{Reason, State, Time, address};
+
+/// Whether picks of the one cluster fail since its endpoints aren't there.
+fn is_absent(updated: &UpdatedViews) -> bool {
+    match updated.views.as_slice() {
+        [Ok(view)] => matches!(view.get().picker.body, PickBody::Fail(Reason::Absent)),
+        _ => false,
+    }
+}
+
+#[test]
+fn trees_take_a_configuration_and_reports(rt: HostRuntime) -> Result<(), Fail> {
+    let config = config(rt.alloc())?;
+    let mut reports = BTreeMap::new(rt.alloc());
+    reports.insert(address(rt.alloc(), "10.0.0.1:80")?, State::Ready)?;
+    let mut trees = Trees::new(rt.alloc());
+    let first = trees.update(&config, &reports, Time(0), &[])?;
+    assert!(rt; is_absent(&first) && first.changed.iter().all(|changed| *changed));
+    let second = trees.update_states(&reports, Time(1), &[])?;
+    assert!(rt; is_absent(&second) && second.changed.iter().all(|changed| !*changed));
+    assert!(rt; trees.localities(0)?.is_empty());
+    Ok(())
+}

@@ -1,0 +1,6 @@
+pub mod SnapshotNumbers
+pub mod SnapshotPlaces
+pub mod RefSteps
+pub mod SortedNames
+pub mod ReferenceProofs
+pub mod CallsProofs

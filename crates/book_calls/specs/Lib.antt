@@ -1,0 +1,4 @@
+pub mod PublishedSnapshots
+pub mod RefsKept
+pub mod CallsKept
+pub mod CallsLaws

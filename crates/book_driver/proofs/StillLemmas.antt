@@ -1,0 +1,65 @@
+-- What a caller of a step can know of what is kept.
+use Rattle.std.proofs.Common.{◌≡◌, ℕ, Bool, true, false, ◌&&◌, ◌||◌, not, List, [], ◌∷◌, ◌++◌, length, Option, Some, None, refl, sym, ap, ◌∙◌, subst, IsTrue, is_some}
+use Rattle.std.specs.List.{list_all}
+use Rattle.std.proofs.lemmas.List.FromFn.{length-map-range_with_len}
+use Rattle.call_journal.specs.declared.entry.What.{What}
+use Rattle.call_journal.specs.declared.entry.Entry.{Entry}
+use Rattle.config_assembly.specs.Orders.{Name}
+use Rattle.xds_history.specs.Setting.{Setting}
+use Rattle.xds_history.specs.References.{references, references_seen}
+use Rattle.xds_history.specs.Pages.{pages}
+use Rattle.xds_history.specs.HistoryLaws.{is_call}
+use Rattle.xds_history.proofs.LawProofs.{entry_of}
+use Rattle.book_streams.specs.StreamsKept.{place_of, state_of}
+use Rattle.book_driver.specs.declared.subscriptions.Settled.{Settled}
+use Rattle.book_driver.specs.Subscribed.{has_driven, names_kept, names_with}
+use Rattle.book_driver.specs.DriverKept.{CanRepeat, DriversHaveHistory, IsDriverAt, StillRepeats, StreamsAreAll}
+
+pub drivers_have_history : DriversHaveHistory
+drivers_have_history s past d at = record { past = past; at = subst (λ t. IsDriverAt t past d) at.subscribed.watcher_is.setting_is at }
+
+pub streams_are_all : StreamsAreAll
+streams_are_all s past d at = ap length at.subscribed.watcher_is.streams_are ∙ length-map-range_with_len (λ place. state_of s (place_of place) past) 0 s.authorities
+
+-- ---- the driver's last entry
+
+both : (a b : Bool) → IsTrue (a && b) → IsTrue a × IsTrue b
+both true b is = (refl, is)
+both false b is = absurd (cc is)
+
+seen_on : (s : Setting) (past : List Entry) (actor line : ℕ) (what : What) → IsTrue (is_call what) → references_seen (pages s (entry_of actor line what ∷ past)) ≡ references_seen (pages s past)
+seen_on s past actor line (What.Driver event reply) is = absurd (cc is)
+seen_on s past actor line (What.Caller event reply) is = refl
+
+seen_driven : (s : Setting) (past : List Entry) (actor line : ℕ) (what : What) → IsTrue (not (is_call what)) → references_seen (pages s (entry_of actor line what ∷ past)) ≡ references (pages s past)
+seen_driven s past actor line (What.Driver event reply) is = refl
+seen_driven s past actor line (What.Caller event reply) is = absurd (cc is)
+
+-- the clusters to which calls referred at it
+seen_before : (s : Setting) (between : List Entry) (before : Entry) (earlier : List Entry) → IsTrue (list_all (λ c. is_call c.what) between) → IsTrue (not (is_call before.what)) →
+    references_seen (pages s (between ++ before ∷ earlier)) ≡ references (pages s earlier)
+seen_before s [] before earlier calls driver = seen_driven s earlier before.actor before.line before.what driver
+seen_before s (e ∷ between) before earlier calls driver =
+    let (first, rest) = both (is_call e.what) (list_all (λ c. is_call c.what) between) calls in
+    seen_on s (between ++ before ∷ earlier) e.actor e.line e.what first ∙ seen_before s between before earlier rest driver
+
+or_more : (b more : Bool) → more ≡ true → (b || more) ≡ true
+or_more true more is = refl
+or_more false more is = is
+
+was_first : (b more : Bool) → b ≡ true → (b || more) ≡ true
+was_first true more is = refl
+was_first false more is = absurd (cc is)
+
+was_driven : (between : List Entry) (before : Entry) (earlier : List Entry) → IsTrue (not (is_call before.what)) → has_driven (between ++ before ∷ earlier) ≡ true
+was_driven [] before earlier driver = was_first (not (is_call before.what)) (has_driven earlier) driver
+was_driven (e ∷ between) before earlier driver = or_more (not (is_call e.what)) (has_driven (between ++ before ∷ earlier)) (was_driven between before earlier driver)
+
+repeats_by : (names : Option (List Name)) (last : Option Settled) → is_some last ≡ true → names_with names last ≡ names_kept last → CanRepeat names last
+repeats_by names None is same = absurd (cc is)
+repeats_by names (Some kept) is same = record { kept = kept; repeats = record { quiet = refl; kept_is = refl; same = same } }
+
+pub still_repeats : StillRepeats
+still_repeats s between before earlier names d at calls driver refs told =
+    repeats_by names d.subscriptions.last (at.subscribed.driven_is ∙ was_driven between before earlier driver)
+    (told ∙ refs ∙ sym (seen_before s between before earlier calls driver) ∙ sym at.subscribed.references_are)

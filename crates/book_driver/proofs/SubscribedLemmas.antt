@@ -1,0 +1,120 @@
+-- What is watched and settled, through an entry.
+use Rattle.std.proofs.Common.{◌≡◌, ℕ, List, [], ◌∷◌, Option, Some, None, refl, sym, ◌∙◌, subst, IsTrue}
+use Rattle.std.specs.Prelude.{IfSome}
+use Rattle.xc_base.specs.declared.names.Key.{Key}
+use Rattle.ads_stream.specs.declared.verdict.Verdict.{Verdict}
+use Rattle.resource_check.specs.declared.delivery.Prepared.{Prepared}
+use Rattle.call_journal.specs.declared.event.DriverEvent.{DriverEvent}
+use Rattle.call_journal.specs.declared.event.CallerEvent.{CallerEvent}
+use Rattle.call_journal.specs.declared.reply.CallerReply.{CallerReply}
+use Rattle.call_journal.specs.declared.reply.DriverReply.{DriverReply}
+use Rattle.call_journal.specs.declared.entry.Entry.{Entry}
+use Rattle.config_assembly.specs.Orders.{Name}
+use Rattle.xds_history.specs.Setting.{Setting}
+use Rattle.xds_history.specs.declared.page.Page.{Page}
+use Rattle.xds_history.specs.Page.{watched_now}
+use Rattle.xds_history.specs.References.{references}
+use Rattle.xds_history.specs.Pages.{called, driven, pages}
+use Rattle.xds_history.specs.HistoryLaws.{is_report}
+use Rattle.book_fates.specs.FatesKept.{keys_in}
+use Rattle.driver_step.specs.SettledKeys.{ChangesNoKey, IsSettledAt, as_settled}
+use Rattle.driver_step.proofs.SettleSteps.{callers_leave_settled, drivers_settle_keys}
+use Rattle.driver_step.proofs.ReportSteps.{reports_change_no_key, reports_leave_fates, reports_leave_streams}
+use Rattle.book_streams.proofs.PlaceLemmas.{callers_change_nothing}
+use Rattle.book_fates.proofs.PageLemmas.{callers_leave}
+use Rattle.book_driver.specs.declared.key_renewal.Renewal.{Renewal}
+use Rattle.book_driver.specs.declared.subscriptions.Settled.{Settled}
+use Rattle.book_driver.specs.declared.subscriptions.Subscriptions.{Subscriptions}
+use Rattle.book_driver.specs.declared.watcher.Watcher.{Watcher}
+use Rattle.book_driver.specs.WatcherKept.{IsWatcherAt, assembly_with}
+use Rattle.book_driver.specs.Renewals.{IsRenewalAt, IsToldBy, reply_by}
+use Rattle.book_driver.specs.Subscribed.{AreSubscribedAt, CallersLeaveSubscribed, IsAnsweredAt, names_with}
+use Rattle.book_driver.specs.Courses.{IsRepeat, quiet_answer}
+
+-- ---- what is reached anew
+
+pub renewal_answers : (s : Setting) (past : List Entry) (event : DriverEvent) (prepared : Option Prepared) (r : Renewal) (w : Watcher) (names : List Name) → IsRenewalAt s past event prepared r w → names ≡ references (pages s past) →
+    IsAnsweredAt s past event prepared r (record { watcher = w; last = Some record { references = names; missing = r.missing } })
+renewal_answers s past event prepared r w names is same = record {
+  told = is.told;
+  reached = is.reached;
+  assembly = is.assembly;
+  sent_are = is.sent_are;
+  kept = λ line number.
+      record {
+        watcher_is = is.kept line number;
+        references_are = same;
+        settled = subst (λ ns. IsSettledAt s (driven 0 line event (reply_by r number) ∷ past) (pages s (driven 0 line event (reply_by r number) ∷ past)) ns r.missing) (sym same)
+            (drivers_settle_keys s past line event (reply_by r number) (assembly_with s past is.reached r.missing r.made) is.assembly is.sent_are);
+        driven_is = refl;
+      };
+}
+
+-- ---- a report that changes nothing
+
+quiet_told : (s : Setting) (past : List Entry) (event : DriverEvent) (prepared : Option Prepared) → IsTrue (is_report event) → IsToldBy s past event prepared Verdict.Done []
+quiet_told s past (DriverEvent.Opened a) prepared is = absurd (cc is)
+quiet_told s past (DriverEvent.Response a payload) prepared is = absurd (cc is)
+quiet_told s past (DriverEvent.Bytes a how) prepared is = absurd (cc is)
+quiet_told s past (DriverEvent.Lost a) prepared is = absurd (cc is)
+quiet_told s past (DriverEvent.Moment time) prepared is = absurd (cc is)
+quiet_told s past (DriverEvent.Endpoint address state) prepared is = record { verdict_is = refl; refused_are = refl; texts_are = refl }
+quiet_told s past DriverEvent.Sweep prepared is = record { verdict_is = refl; refused_are = refl; texts_are = refl }
+
+watched_still : (s : Setting) (past : List Entry) (line : ℕ) (event : DriverEvent) (reply : DriverReply) (least : Option Key) (w : Watcher) → IsTrue (is_report event) → IsSettledAt s past (pages s past) (references (pages s past)) least → reply.sent ≡ [] → IsWatcherAt s past w →
+    IsWatcherAt s (driven 0 line event reply ∷ past) w
+watched_still s past line event reply least w is settled none at = record {
+  setting_is = at.setting_is;
+  streams_are = at.streams_are ∙ sym (reports_leave_streams s past line event reply least is settled none);
+  fates_are = reports_leave_fates s past line event reply least w.fates is settled none at.fates_are;
+  keys_are = at.keys_are;
+  right = at.right;
+}
+
+still : (s : Setting) (past : List Entry) (event : DriverEvent) (prepared : Option Prepared) (v : Subscriptions) (kept : Settled) → AreSubscribedAt s past v → IsTrue (is_report event) → IsSettledAt s past (pages s past) (references (pages s past)) kept.missing →
+    kept.references ≡ references (pages s past) → IsAnsweredAt s past event prepared (quiet_answer kept.missing) (record { watcher = v.watcher; last = Some kept })
+still s past event prepared v kept at is settled same =
+    let ps : List Page = pages s past in
+    let r : Renewal = quiet_answer kept.missing in
+    let no : ChangesNoKey s past ps event (reply_by r None) kept.missing = reports_change_no_key s past ps event (reply_by r None) kept.missing is settled in record {
+      told = quiet_told s past event prepared is;
+      reached = keys_in (watched_now ps);
+      assembly = no.assembly;
+      sent_are = sym no.sent;
+      kept = λ line number.
+          record {
+            watcher_is = watched_still s past line event (reply_by r number) kept.missing v.watcher is settled refl at.watcher_is;
+            references_are = same;
+            settled = subst (λ ns. IsSettledAt s (driven 0 line event (reply_by r number) ∷ past) (pages s (driven 0 line event (reply_by r number) ∷ past)) ns kept.missing) (sym same)
+                (drivers_settle_keys s past line event (reply_by r number) (as_settled ps kept.missing) no.assembly (sym no.sent));
+            driven_is = refl;
+          };
+    }
+
+pub quiet_answer_is : (s : Setting) (past : List Entry) (event : DriverEvent) (prepared : Option Prepared) (names : Option (List Name)) (v : Subscriptions) (kept : Settled) → AreSubscribedAt s past v → names_with names v.last ≡ references (pages s past) →
+    IsRepeat (is_report event) names v.last kept → IsAnsweredAt s past event prepared (quiet_answer kept.missing) (record { watcher = v.watcher; last = Some kept })
+quiet_answer_is s past event prepared names v kept at refers by =
+    let same : kept.references ≡ references (pages s past) = sym by.same ∙ refers in
+    let settled : IsSettledAt s past (pages s past) kept.references kept.missing = subst (λ o. IfSome o (λ l. IsSettledAt s past (pages s past) l.references l.missing)) by.kept_is at.settled in
+    still s past event prepared v kept at by.quiet (subst (λ ns. IsSettledAt s past (pages s past) ns kept.missing) same settled) same
+
+-- ---- a caller's entry
+
+settled_on : (s : Setting) (past : List Entry) (actor line : ℕ) (event : CallerEvent) (reply : CallerReply) (last : Option Settled) → IfSome last (λ l. IsSettledAt s past (pages s past) l.references l.missing) →
+    IfSome last (λ l. IsSettledAt s (called actor line event reply ∷ past) (pages s (called actor line event reply ∷ past)) l.references l.missing)
+settled_on s past actor line event reply None is = tt
+settled_on s past actor line event reply (Some l) is = callers_leave_settled s past actor line event reply l.references l.missing is
+
+pub callers_leave_subscribed : CallersLeaveSubscribed
+callers_leave_subscribed s past actor line event reply v at = record {
+  watcher_is = record {
+    setting_is = at.watcher_is.setting_is;
+    streams_are = at.watcher_is.streams_are ∙ sym (callers_change_nothing s actor line event reply past);
+    fates_are = callers_leave s past actor line event reply v.watcher.fates at.watcher_is.fates_are;
+    keys_are = at.watcher_is.keys_are;
+    right = at.watcher_is.right;
+  };
+  references_are = at.references_are;
+  settled = settled_on s past actor line event reply v.last at.settled;
+  driven_is = at.driven_is;
+}

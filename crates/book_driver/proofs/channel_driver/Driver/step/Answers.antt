@@ -1,0 +1,20 @@
+use Rattle.xds_history.specs.Pages.{pages}
+use Rattle.book_driver.specs.WatcherKept.{setting_by}
+use Rattle.book_driver.proofs.SteppedLemmas.{came_with_trees, stepped_at}
+use Rattle.book_driver.proofs.channel_driver.Driver.step.Goals as goal
+
+pub show-requires-clause-changes : goal.show-requires-clause-changes
+show-requires-clause-changes g c =
+    let s = setting_by c.args.self.now.subscriptions.watcher in
+    let with = c.in_ok-came.ensures c.requires.at.past (pages s c.requires.at.past) c.requires.at.at.configured.trees_are in
+    (with.last, with.forest.updated, with.differ)
+
+pub returns-clause-step : goal.returns-clause-step
+returns-clause-step g c s past due =
+    let trees = c.in_ok-came.ensures past (pages s past) due.at.configured.trees_are in
+    let with = came_with_trees s c.args.event.now past c.came.new.self c.args.self.now.trees.config trees due.at.configured.config_is in
+    stepped_at s past c.args.event.now c.args.prepared c.in_ok-renewal.renewal c.answer.new.self c.in_ok-published.published c.show.new.self c.args.self.now.trees.config due.at.configured.config_is
+    (c.in_ok-renewal.ensures.step s past due.at.subscribed (record { now_is = trees.now_is; references_are = due.references_are }))
+    (c.in_ok-published.ensures.published s past with due.shows due.latest_is)
+    c.in_ok-published.ensures.config c.in_ok-published.ensures.lawful
+    (λ line page of. c.in_ok-published.ensures.kept s past line _ page with of)

@@ -1,0 +1,24 @@
+use Rattle.std.proofs.Common.{refl, sym, ◌∙◌, subst}
+use Rattle.xds_history.specs.Pages.{came, pages}
+use Rattle.book_fates.specs.Timing.{AreAskedBy}
+use Rattle.book_fates.specs.FatesKept.{turned_by}
+use Rattle.driver_step.specs.DriverSteps.{watched_by}
+use Rattle.book_driver.proofs.WatcherLemmas.{keys_by, settles, watched_after}
+use Rattle.book_driver.proofs.watcher.Watcher.ask.Goals as goal
+
+pub returns-clause-sent : goal.returns-clause-sent
+returns-clause-sent g c s past before a by same =
+    c.in_ok-sent.ensures.sent s before past (watched_by s before past (pages s past) a) (c.as_slice.ensures ∙ keys_by s before past a c.args.reached same) by.streams_are
+
+pub returns-clause-kept : goal.returns-clause-kept
+returns-clause-kept g c s past line event reply a by assembled_is same timely told =
+    let keys = c.as_slice.ensures ∙ keys_by s (came event reply) past a c.args.reached same in
+    let asked = c.in_ok-sent.ensures.sent s (came event reply) past (watched_by s (came event reply) past (pages s past) a) keys by.streams_are in
+    watched_after s past line event reply c.args.now a c.args.reached c.args.self.now
+    (record { alloc = c.args.self.now.alloc; boot = c.args.self.now.boot; deps = c.args.self.now.deps; streams = c.names.new.self; fates = c.settle.new.self })
+    by assembled_is same refl refl c.in_ok-settle.ensures.cache
+    (c.in_ok-sent.ensures.after s 0 line event reply past (watched_by s (came event reply) past (pages s past) a) keys by.streams_are (told ∙ asked))
+    (settles s past line event reply c.args.now a c.args.reached c.in_ok-sent.sent c.args.self.now c.settle.new.self by assembled_is same timely told asked
+    (λ page watched now_is turns asks.
+    c.in_ok-settle.ensures.kept s (came event reply) past (pages s past) page (turned_by event reply.verdict) by.marks by.marked by.timers_are by.before_are by.watching watched now_is turns
+    (subst (λ xs. AreAskedBy xs c.args.reached past page) (sym c.as_slice-3.ensures) asks)))

@@ -1,0 +1,20 @@
+use Rattle.std.proofs.Common.{refl}
+use Rattle.config_assembly.specs.ReachedResources.{resources}
+use Rattle.driver_step.proofs.KeySets.{reached_keys_rise}
+use Rattle.book_driver.proofs.WatcherLemmas.{assembly_by, reached_by}
+use Rattle.book_driver.proofs.watcher.Watcher.assemble.Goals as goal
+
+pub returns-clause-reached : goal.returns-clause-reached
+returns-clause-reached g c s past came now by =
+    reached_by s past came now c.in_ok-outcome.outcome.reached c.args.self.now
+    (record { alloc = c.args.self.now.alloc; boot = c.args.self.now.boot; deps = c.update.new.self; streams = c.args.self.now.streams; fates = record { cache = c.update.new.cache; timers = c.args.self.now.fates.timers; reached = c.args.self.now.fates.reached } })
+    by refl refl refl refl c.in_ok-outcome.ensures.held.0 c.in_ok-outcome.ensures.held.1 c.in_ok-outcome.ensures.watched c.in_ok-outcome.ensures.kept
+
+pub returns-clause-assembly : goal.returns-clause-assembly
+returns-clause-assembly g c s past came now by timely =
+    assembly_by s past came now c.args.references.now c.args.self.now c.in_ok-outcome.outcome.reached c.in_ok-outcome.outcome.missing c.in_ok-outcome.outcome.config by timely
+    (record { reached_are = c.in_ok-outcome.ensures.reached; missing_is = c.in_ok-outcome.ensures.missing; config_is = c.in_ok-outcome.ensures.config })
+    c.in_ok-outcome.ensures.whole
+
+pub returns-clause-order : goal.returns-clause-order
+returns-clause-order g c = reached_keys_rise (resources c.args.self.now.deps.target c.args.self.now.boot.authorities c.args.self.now.fates.cache) c.args.references.now c.in_ok-outcome.outcome.reached c.in_ok-outcome.ensures.reached

@@ -1,0 +1,90 @@
+-- The configuration and its trees, what is seen of them after an entry, and what is published of that.
+use Rattle.std.specs.Option.{option_or}
+use Rattle.std.specs.Prelude.{◌≡◌, ℕ, List, Option, None, Some, IfSome, option_and_then, option_map}
+use Rattle.xds_config.specs.declared.config.Config.{Config}
+use Rattle.xds_config.specs.Configs.{IsLawfulConfig}
+use Rattle.cluster_tree.specs.declared.snapshot.Snapshot.{Snapshot}
+use Rattle.cluster_tree.specs.ViewChanges.{ArePickable, IsChangeMark}
+use Rattle.call_journal.specs.declared.event.DriverEvent.{DriverEvent}
+use Rattle.call_journal.specs.declared.entry.Entry.{Entry}
+use Rattle.xds_history.specs.Setting.{Setting}
+use Rattle.xds_history.specs.declared.page.ClusterTrees.{ClusterTrees}
+use Rattle.xds_history.specs.Page.{config_now, latest, trees_now}
+use Rattle.xds_history.specs.Trees.{trees_after}
+use Rattle.xds_history.specs.Pages.{pages, present_after, snapshot_of}
+use Rattle.xds_history.specs.Right.{IsNumber, Shown, standing}
+use Rattle.book_trees.specs.TreesKept.{AreMarked, AreTreesAt, AreTreesWith, views_after}
+use Rattle.book_driver.specs.declared.configured_trees.ConfiguredTrees.{ConfiguredTrees}
+use Rattle.book_driver.specs.declared.configured_trees.Seen.{Seen}
+use Rattle.book_driver.specs.declared.configured_trees.Published.{Published}
+
+-- between entries
+pub record AreConfiguredAt (s : Setting) (past : List Entry) (t : ConfiguredTrees) : Type 0 where
+  pub trees_are : AreTreesAt past (pages s past) t.trees
+  pub config_is : t.config ≡ config_now (pages s past)
+  pub lawful : IfSome t.config IsLawfulConfig
+
+-- within an entry, once its event came
+pub record AreConfiguredWith (s : Setting) (event : DriverEvent) (past : List Entry) (t : ConfiguredTrees) : Type 0 where
+  pub trees_are : AreTreesWith event past (pages s past) t.trees
+  pub config_is : t.config ≡ config_now (pages s past)
+
+-- ---- the configuration that was made, where it isn't the one from before
+
+abbrev pub IsNews : Option Config → Option Config → Option Config → Type 0
+IsNews made before None = option_or made before ≡ before
+IsNews made before (Some config) = (made ≡ Some config) × (before ≡ Some config → ⊥)
+
+-- ---- what is seen
+
+-- of the trees of this configuration
+pub record IsSeen (s : Setting) (event : DriverEvent) (past : List Entry) (config : Config) (seen : Seen) : Type 0 where
+  pub views_are : seen.views ≡ views_after event past (pages s past) config
+  -- a cluster has a mark exactly where what is seen of it differs from what was seen of the cluster of its name
+  pub marks_are : AreMarked seen.changed.items past (pages s past) config seen.views
+  pub pickable : ArePickable seen.views
+  -- and there is one for a configuration that isn't the one from before
+  pub new_is : IsChangeMark seen.is_new (config_now (pages s past)) config
+
+-- something is seen exactly where there is a configuration
+abbrev pub AreSeen : Setting → DriverEvent → List Entry → Option Config → Option Seen → Type 0
+AreSeen s event past None None = Unit {0}
+AreSeen s event past (Some config) (Some seen) = IsSeen s event past config seen
+AreSeen s event past None (Some seen) = ⊥
+AreSeen s event past (Some config) None = ⊥
+
+-- ---- what is published
+
+-- the trees after an event, with this configuration
+abbrev pub trees_with : Setting → DriverEvent → List Entry → Option Config → List ClusterTrees
+trees_with s event past config = trees_after (present_after past event) (trees_now (pages s past)) config
+
+-- what stands then
+abbrev pub stands_with : Setting → DriverEvent → List Entry → Option Config → Option Shown
+stands_with s event past config = standing (present_after past event) config (trees_with s event past config)
+
+-- what is seen of this configuration, where there is a number
+abbrev pub published_by : Option ℕ → Option Config → Option Seen → Option Published
+published_by (Some number) (Some config) (Some seen) = Some record { number = number; config = config; views = seen.views; changed = seen.changed; is_new = seen.is_new }
+published_by _ _ _ = None
+
+abbrev pub number_in : Option Published → Option ℕ
+number_in published = option_map (λ p. p.number) published
+
+-- a snapshot shows what is published
+abbrev pub snapshot_by : Published → Snapshot
+snapshot_by p = record { number = p.number; config = p.config; trees = p.views }
+
+abbrev pub seen_in : Published → Seen
+seen_in p = record { views = p.views; changed = p.changed; is_new = p.is_new }
+
+pub record IsPublication (s : Setting) (event : DriverEvent) (past : List Entry) (config : Option Config) (p : Published) : Type 0 where
+  pub config_is : config ≡ Some p.config
+  pub lawful : IsLawfulConfig p.config
+  pub seen : IsSeen s event past p.config (seen_in p)
+
+-- a snapshot is published exactly where one is due
+pub record IsShownBy (s : Setting) (event : DriverEvent) (past : List Entry) (config : Option Config) (published : Option Published) : Type 0 where
+  pub number_is : IsNumber (stands_with s event past config) (latest (pages s past)) (number_in published)
+  pub snapshot_is : option_and_then (snapshot_of (present_after past event) config (trees_with s event past config)) (number_in published) ≡ option_map snapshot_by published
+  pub published_is : IfSome published (IsPublication s event past config)

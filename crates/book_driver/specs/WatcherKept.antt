@@ -1,0 +1,67 @@
+-- What is kept of streams and watched keys, and what it is of the history.
+use Rattle.std.specs.Prelude.{◌≡◌, List, Option}
+use Rattle.std.specs.Option.{option_or}
+use Rattle.xc_base.specs.declared.names.Key.{Key}
+use Rattle.xc_base.specs.declared.names.Time.{Time}
+use Rattle.xds_config.specs.declared.config.Config.{Config}
+use Rattle.call_journal.specs.declared.event.DriverEvent.{DriverEvent}
+use Rattle.call_journal.specs.declared.entry.Entry.{Entry}
+use Rattle.config_assembly.specs.Orders.{Name}
+use Rattle.config_assembly.specs.Watching.{IsWatching}
+use Rattle.dep_manager.specs.KeptAssemblies.{IsRightBy}
+use Rattle.xds_history.specs.Setting.{Setting, setting_of}
+use Rattle.xds_history.specs.Responses.{Came}
+use Rattle.xds_history.specs.Pages.{pages, present_after}
+use Rattle.xds_history.specs.Page.{config_now}
+use Rattle.xds_history.specs.References.{references}
+use Rattle.book_streams.specs.StreamsKept.{states_of, states_with}
+use Rattle.book_fates.specs.declared.timed_fates.Fates.{Fates}
+use Rattle.book_fates.specs.FatesKept.{IsKeptAt, IsMarkedAt, turned_by}
+use Rattle.driver_step.specs.DriverSteps.{Assembly}
+use Rattle.book_driver.specs.declared.watcher.Watcher.{Watcher}
+
+-- the setting of a channel with this bootstrap and target
+abbrev pub setting_by : Watcher → Setting
+setting_by w = setting_of w.boot w.deps.target
+
+-- between entries
+pub record IsWatcherAt (s : Setting) (past : List Entry) (w : Watcher) : Type 0 where
+  pub setting_is : s ≡ setting_by w
+  pub streams_are : w.streams ≡ states_of s past
+  pub fates_are : IsKeptAt past (pages s past) w.fates
+  pub keys_are : w.deps.reached ≡ w.fates.reached
+  -- and what the last update made is right by what is known
+  pub right : IsRightBy w.boot.authorities w.fates.cache w.deps
+
+-- within an entry, once this came, before it is known what is reached
+pub record IsHeardBy (s : Setting) (past : List Entry) (c : Came) (now : Time) (w : Watcher) : Type 0 where
+  pub setting_is : s ≡ setting_by w
+  pub streams_are : w.streams ≡ states_with s c past
+  pub fates_are : IsMarkedAt s c past (pages s past) now (turned_by c.event c.verdict) w.fates
+  pub keys_are : w.deps.reached ≡ w.fates.reached
+
+-- and once it is: these keys are watched, and nothing is asked yet
+pub record IsReachedBy (s : Setting) (past : List Entry) (c : Came) (now : Time) (reached : List Key) (w : Watcher) : Type 0 where
+  pub setting_is : s ≡ setting_by w
+  pub streams_are : w.streams ≡ states_with s c past
+  pub marks : Fates
+  pub marked : IsMarkedAt s c past (pages s past) now (turned_by c.event c.verdict) marks
+  pub timers_are : w.fates.timers ≡ marks.timers
+  pub before_are : w.fates.reached ≡ marks.reached
+  pub watching : IsWatching marks.cache w.fates.cache reached
+  pub keys_are : w.deps.reached ≡ reached
+  pub right : IsRightBy w.boot.authorities w.fates.cache w.deps
+
+-- it is what is kept after some history
+pub record HasWatched (w : Watcher) : Type 0 where
+  pub past : List Entry
+  pub at : IsWatcherAt (setting_by w) past w
+
+-- the time and the references that are handed in are those of the history
+pub record IsTimely (s : Setting) (past : List Entry) (event : DriverEvent) (now : Time) (names : List Name) : Type 0 where
+  pub now_is : now ≡ (present_after past event).now
+  pub references_are : names ≡ references (pages s past)
+
+-- what is reached, awaited and configured: the configuration that was made, if any was, and the one from before else
+abbrev pub assembly_with : Setting → List Entry → List Key → Option Key → Option Config → Assembly
+assembly_with s past reached least made = record { reached = reached; missing = least; config = option_or made (config_now (pages s past)) }

@@ -1,0 +1,115 @@
+//! What an event comes to for the streams and the keys that are watched.
+ghost use Rattle.std.specs.Prelude.{◌≡◌, ◌<◌, ◌↔◌, List, length, IfOk, IfSome, IsNone, IsSome, unwrap_or};
+ghost use Rattle.xds_config.specs.Configs.{IsLawfulConfig};
+ghost use Rattle.call_journal.specs.declared.entry.Entry.{Entry as EntryValue};
+ghost use Rattle.xds_history.specs.Setting.{Setting};
+ghost use Rattle.dep_manager.specs.KeptAssemblies.{HaveChanged, IsRightBy};
+ghost use Rattle.book_fates.specs.FateSteps.{WatchesOnly};
+ghost use Rattle.book_streams.specs.StreamsLaws.{authority_in, came_with};
+ghost use Rattle.book_hearing.specs.HeardEvents.{IsPreparedFor};
+ghost use Rattle.book_driver.specs.WatcherKept.{HasWatched, IsHeardBy, IsTimely, IsWatcherAt};
+ghost use Rattle.book_driver.specs.Renewals.{IsRenewalAt, IsToldBy};
+
+use crate::marking::mark;
+use crate::watcher::Watcher;
+use ads_stream::Verdict;
+use book_hearing::hear;
+use call_journal::{DriverEvent, Sent};
+use resource_check::Prepared;
+use std::sync::ledger::Ledger;
+use xc_base::{Key, List, Memory, Shared, Steps, Text, Time};
+use xds_config::Config;
+
+/// What an event comes to.
+#[derive(Drop)]
+pub struct Renewal {
+    /// The verdict on it.
+    pub verdict: Verdict,
+    /// The pattern texts that are refused at it.
+    pub refused: List<Text>,
+    /// The requests that are due by it.
+    pub sent: List<Sent>,
+    /// The least reached key that is awaited.
+    pub missing: Option<Key>,
+    /// The configuration that was made, which is there exactly where no reached key is awaited.
+    pub made: Option<Shared<Config>>,
+}
+
+/// What is taken in of an event.
+#[derive(Drop)]
+struct Intake {
+    /// The verdict on it.
+    verdict: Verdict,
+    /// The pattern texts that are refused at it.
+    refused: List<Text>,
+    /// The watched keys of which something else may be known by it.
+    changed: List<Key>,
+}
+
+/// The keys that were waited for in vain, where time passed, else those that a response touched.
+fn changed_by(expired: Option<List<Key>>, touched: List<Key>) -> List<Key>
+    ensures { result ≡ unwrap_or expired touched }
+{
+    match expired {
+        Some(expired) => expired,
+        None => touched,
+    }
+}
+
+impl Watcher {
+    /// Hears an event, and takes in what it brings for the watched keys. It fails for want of memory alone, and then nothing
+    /// is said of what is kept.
+    fn take_in<L: Ledger>(
+        &mut self,
+        event: &DriverEvent,
+        prepared: Option<Prepared>,
+        now: Time,
+        steps: &mut Steps<L>,
+    ) -> Result<Intake, Memory>
+        requires known { IfSome (authority_in event.now) (λ a. a.0 < length self.old.streams) }
+        requires prepared { IsPreparedFor event.now prepared }
+        requires only { WatchesOnly self.old.fates.cache self.old.fates.reached }
+        ensures heard { IfOk result (λ heard. (s : Setting) (past : List EntryValue) → IsWatcherAt s past self.old → IsHeardBy s past (came_with event.now heard.verdict heard.refused) now self.new) }
+        ensures told { IfOk result (λ heard. (s : Setting) (past : List EntryValue) → IsWatcherAt s past self.old → IsToldBy s past event.now prepared heard.verdict heard.refused) }
+        ensures changed { IfOk result (λ heard. IsRightBy self.old.boot.authorities self.old.fates.cache self.old.deps → HaveChanged self.new.boot.authorities self.new.deps self.new.fates.cache heard.changed) }
+    {
+        let heard = hear(self.alloc, &mut self.streams, event, prepared)?;
+        let touched = self.fates.touched(self.alloc, &heard.answered)?;
+        let brought = (heard.verdict, heard.answered);
+        let expired = mark(&mut self.fates, event, brought, now, steps)?;
+        Ok(Intake {
+            verdict: heard.verdict,
+            refused: heard.refused,
+            changed: changed_by(expired, touched),
+        })
+    }
+
+    /// Takes in an event at a time, with the clusters that calls refer to: its verdict, what is awaited and configured by it,
+    /// and the requests that are due. It fails for want of memory alone, and then nothing is said of what is kept.
+    pub fn renew<L: Ledger>(
+        &mut self,
+        event: &DriverEvent,
+        prepared: Option<Prepared>,
+        now: Time,
+        references: &List<Text>,
+        steps: &mut Steps<L>,
+    ) -> Result<Renewal, Memory>
+        requires known { IfSome (authority_in event.now) (λ a. a.0 < length self.old.streams) }
+        requires prepared { IsPreparedFor event.now prepared }
+        requires at { HasWatched self.old }
+        ensures step { IfOk result (λ r. (s : Setting) (past : List EntryValue) → IsWatcherAt s past self.old → IsTimely s past event.now now references.now → IsRenewalAt s past event.now prepared r self.new) }
+        ensures whole { IfOk result (λ r. IsSome r.made ↔ IsNone r.missing) }
+        ensures lawful { IfOk result (λ r. IfSome r.made IsLawfulConfig) }
+    {
+        let heard = self.take_in(event, prepared, now, steps)?;
+        let outcome = self.assemble(&heard.changed, references, steps)?;
+        let sent = self.ask(outcome.reached, now, steps)?;
+        Ok(Renewal {
+            verdict: heard.verdict,
+            refused: heard.refused,
+            sent,
+            missing: outcome.missing,
+            made: outcome.config,
+        })
+    }
+}

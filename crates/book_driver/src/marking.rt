@@ -1,0 +1,104 @@
+//! What an event brings for the watched keys.
+ghost use Rattle.std.specs.Prelude.{◌≡◌, List, [], None, Some, IfOk, OnOk, IfSome, option_map, unwrap_or, if◌then◌else◌};
+ghost use Rattle.call_journal.specs.declared.entry.Entry.{Entry as EntryValue};
+ghost use Rattle.xds_history.specs.Setting.{Setting};
+ghost use Rattle.xds_history.specs.Responses.{Came, answered};
+ghost use Rattle.xds_history.specs.Streams.{is_broken, is_unreadable};
+ghost use Rattle.xds_history.specs.declared.page.Page.{Page as PageValue};
+ghost use Rattle.dep_manager.specs.KeptAssemblies.{AreChanges};
+ghost use Rattle.book_fates.specs.FateSteps.{WatchesOnly};
+ghost use Rattle.book_fates.specs.Delivered.{IsReady, delivered_by, delivered_in, touched_by};
+ghost use Rattle.book_fates.specs.FatesKept.{IsKeptAt, IsMarkedAt, is_moment, turned_by};
+
+use ads_stream::Verdict;
+use book_fates::{Answered, Fates};
+use call_journal::{BytesHow, DriverEvent};
+use std::sync::ledger::Ledger;
+use xc_base::{Authority, Key, List, Memory, Steps, Time};
+
+/// The authority, where the test holds.
+fn authority_if(test: bool, authority: Authority) -> Option<Authority>
+    ensures { result ≡ (if test then Some authority else None) }
+{
+    if test { Some(authority) } else { None }
+}
+
+/// Whether bytes came that break their stream.
+fn is_broken(how: BytesHow) -> bool
+    ensures { result ≡ is_broken how }
+{
+    matches!(how, BytesHow::Compressed | BytesHow::TooLong(_))
+}
+
+/// Whether a verdict says that a response can't be read.
+fn is_unreadable(verdict: Verdict) -> bool
+    ensures { result ≡ is_unreadable verdict }
+{
+    matches!(verdict, Verdict::Unreadable)
+}
+
+/// Whose stream an event with this verdict opens or ends. It takes no memory.
+pub fn turned_by(event: &DriverEvent, verdict: Verdict) -> Option<Authority>
+    ensures { result ≡ turned_by event.now verdict }
+{
+    match event {
+        DriverEvent::Opened(authority) | DriverEvent::Lost(authority) => Some(*authority),
+        DriverEvent::Response { authority, .. } => {
+            authority_if(is_unreadable(verdict), *authority)
+        }
+        DriverEvent::Bytes { authority, how } => authority_if(is_broken(*how), *authority),
+        _ => None,
+    }
+}
+
+/// Whether time is told.
+fn is_moment(event: &DriverEvent) -> bool
+    ensures { result ≡ is_moment event.now }
+{
+    matches!(event, DriverEvent::Moment(_))
+}
+
+/// Takes in an event that brings no answered response: time passes, or a stream turns. It answers the keys that were waited
+/// for in vain, where time passes, and fails for want of memory alone.
+fn pass_or_turn<L: Ledger>(
+    fates: &mut Fates,
+    event: &DriverEvent,
+    verdict: Verdict,
+    now: Time,
+    steps: &mut Steps<L>,
+) -> Result<Option<List<Key>>, Memory>
+    ensures changes { IfOk result (λ expired. AreChanges fates.old.cache fates.new.cache (unwrap_or expired [])) }
+    ensures marked { OnOk result ((s : Setting) (c : Came) (past : List EntryValue) (ps : List PageValue) → c.event ≡ event.now → c.verdict ≡ verdict → answered s c ≡ None → IsKeptAt past ps fates.old → IsMarkedAt s c past ps now (turned_by event.now verdict) fates.new) }
+{
+    if is_moment(event) {
+        let expired = fates.pass(now)?;
+        return Ok(Some(expired));
+    }
+    fates.turn(turned_by(event, verdict), steps);
+    Ok(None)
+}
+
+/// Takes in what an event brings for the watched keys: an answered response, or time, or that a stream turns (Envoy's xDS
+/// transport, gRFC A47). It answers the keys that were waited for in vain, where time passes, and fails for want of memory
+/// alone.
+pub fn mark<L: Ledger>(
+    fates: &mut Fates,
+    event: &DriverEvent,
+    heard: (Verdict, Option<Answered>),
+    now: Time,
+    steps: &mut Steps<L>,
+) -> Result<Option<List<Key>>, Memory>
+    requires ready { IfSome heard.1 IsReady }
+    requires only { WatchesOnly fates.old.cache fates.old.reached }
+    ensures changes { IfOk result (λ expired. AreChanges fates.old.cache fates.new.cache (unwrap_or expired (touched_by heard.1 fates.old.reached))) }
+    ensures marked { OnOk result ((s : Setting) (c : Came) (past : List EntryValue) (ps : List PageValue) → c.event ≡ event.now → c.verdict ≡ heard.0 → option_map delivered_in heard.1 ≡ option_map delivered_by (answered s c) → IsKeptAt past ps fates.old → IsMarkedAt s c past ps now (turned_by event.now heard.0) fates.new) }
+{
+    let (verdict, answered) = heard;
+    match answered {
+        Some(response) => {
+            fates.take(response, steps)?;
+            Ok(None)
+        }
+        None => pass_or_turn(fates, event, verdict, now, steps),
+    }
+}

@@ -1,0 +1,199 @@
+//! What is watched, and what the driver's last entry settled of it.
+ghost use Rattle.std.specs.Prelude.{◌≡◌, ◌<◌, ◌↔◌, List, Some, length, IfOk, IfSome, IsTrue, OnOk};
+ghost use Rattle.xds_config.specs.Configs.{IsLawfulConfig};
+ghost use Rattle.call_journal.specs.declared.entry.Entry.{Entry as EntryValue};
+ghost use Rattle.xds_history.specs.Setting.{Setting};
+ghost use Rattle.xds_history.specs.HistoryLaws.{is_report};
+ghost use Rattle.book_streams.specs.StreamsLaws.{authority_in};
+ghost use Rattle.book_hearing.specs.HeardEvents.{IsPreparedFor};
+ghost use Rattle.book_driver.specs.declared.subscriptions.Settled.{Settled as SettledValue};
+ghost use Rattle.book_driver.specs.WatcherKept.{HasWatched, IsTimely, IsWatcherAt};
+ghost use Rattle.book_driver.specs.Subscribed.{AreSubscribedAt, HasSubscribed, IsAnsweredAt, names_with};
+ghost use Rattle.book_driver.specs.Courses.{IsCourse, IsRepeat, quiet_answer};
+
+use crate::key_renewal::Renewal;
+use crate::watcher::Watcher;
+use ads_stream::Verdict;
+use call_journal::DriverEvent;
+use resource_check::Prepared;
+use std::alloc::Global;
+use std::sync::ledger::Ledger;
+use xc_base::{Key, List, Memory, Same, Steps, Text, Time};
+
+/// What the driver's last entry settled.
+#[derive(Drop)]
+pub struct Settled {
+    /// The clusters to which calls referred, in the order of their bytes.
+    pub references: List<Text>,
+    /// The least reached key that is awaited.
+    pub missing: Option<Key>,
+}
+
+/// The streams and the keys that are watched, and what the driver's last entry settled of them.
+#[derive(Drop)]
+pub struct Subscriptions {
+    /// The streams and the keys.
+    pub watcher: Watcher,
+    /// What the driver's last entry settled; none before its first.
+    pub last: Option<Settled>,
+}
+
+/// How an event is answered.
+#[derive(Drop)]
+enum Course {
+    /// As the driver's last entry left it: nothing is reached anew and nothing asked.
+    Repeats(Settled),
+    /// By what it brings, where calls refer to these clusters.
+    Renews(List<Text>),
+}
+
+/// Whether an event is a report of an endpoint's state or a sweep.
+fn is_report(event: &DriverEvent) -> bool
+    ensures { result ≡ is_report event.now }
+{
+    matches!(event, DriverEvent::Endpoint { .. } | DriverEvent::Sweep)
+}
+
+/// Whether calls refer to the same clusters as at the driver's last entry.
+fn are_same(names: &Option<List<Text>>, last: &Settled) -> bool
+    ensures { IsTrue result ↔ (names_with names.now (Some last.now) ≡ last.now.references) }
+{
+    match names {
+        Some(names) => names.same(&last.references),
+        None => true,
+    }
+}
+
+/// The clusters to which calls refer.
+fn names_with(names: Option<List<Text>>, last: Settled) -> List<Text>
+    ensures { result ≡ names_with names (Some last) }
+{
+    match names {
+        Some(names) => names,
+        None => last.references,
+    }
+}
+
+/// How an event is answered after the driver's last entry settled this.
+fn course_after(is_quiet: bool, names: Option<List<Text>>, last: Settled) -> Course
+    ensures { IsCourse is_quiet names (Some last) result }
+{
+    if is_quiet && are_same(&names, &last) {
+        return Course::Repeats(last);
+    }
+    Course::Renews(names_with(names, last))
+}
+
+/// How an event is answered, by whether it is a report, by the clusters to which calls refer, where they aren't those of the
+/// driver's last entry, and by what that one settled.
+fn course_of(
+    alloc: Global,
+    is_quiet: bool,
+    names: Option<List<Text>>,
+    last: Option<Settled>,
+) -> Course
+    ensures { IsCourse is_quiet names last result }
+{
+    match (names, last) {
+        (names, Some(last)) => course_after(is_quiet, names, last),
+        (Some(names), None) => Course::Renews(names),
+        (None, None) => Course::Renews(List::new(alloc)),
+    }
+}
+
+/// A copy of a key, if there is one.
+fn copy_of(key: &Option<Key>) -> Result<Option<Key>, Memory>
+    ensures { IfOk result (λ copy. copy ≡ key.now) }
+{
+    match key {
+        Some(key) => Ok(Some(key.clone()?)),
+        None => Ok(None),
+    }
+}
+
+/// The answer that changes nothing, where this key is awaited.
+fn repeat(alloc: Global, missing: Option<Key>) -> Renewal
+    ensures { result ≡ quiet_answer missing }
+{
+    Renewal {
+        verdict: Verdict::Done,
+        refused: List::new(alloc),
+        sent: List::new(alloc),
+        missing,
+        made: None,
+    }
+}
+
+impl Subscriptions {
+    /// Answers an event by what it brings, where calls refer to these clusters.
+    fn renew<L: Ledger>(
+        &mut self,
+        event: &DriverEvent,
+        prepared: Option<Prepared>,
+        now: Time,
+        references: List<Text>,
+        steps: &mut Steps<L>,
+    ) -> Result<Renewal, Memory>
+        requires known { IfSome (authority_in event.now) (λ a. a.0 < length self.old.watcher.streams) }
+        requires prepared { IsPreparedFor event.now prepared }
+        requires at { HasWatched self.old.watcher }
+        ensures step { IfOk result (λ r. (s : Setting) (past : List EntryValue) → IsWatcherAt s past self.old.watcher → IsTimely s past event.now now references → IsAnsweredAt s past event.now prepared r self.new) }
+        ensures lawful { IfOk result (λ r. IfSome r.made IsLawfulConfig) }
+    {
+        let renewal = self
+            .watcher
+            .renew(event, prepared, now, &references, steps)?;
+        let missing = copy_of(&renewal.missing)?;
+        self.last = Some(Settled {
+            references,
+            missing,
+        });
+        Ok(renewal)
+    }
+
+    /// Answers a report as the driver's last entry left it.
+    fn repeat(&mut self, last: Settled) -> Result<Renewal, Memory>
+        ensures answer { IfOk result (λ r. r ≡ quiet_answer last.missing) }
+        ensures last { OnOk result (self.new ≡ record { watcher = self.old.watcher; last = Some last }) }
+    {
+        let missing = copy_of(&last.missing)?;
+        self.last = Some(last);
+        Ok(repeat(self.watcher.alloc, missing))
+    }
+
+    /// Answers an event at a time, where calls refer to these clusters; none are handed in where they are those of the
+    /// driver's last entry. A report of an endpoint's state or a sweep repeats what that one settled, unless calls refer to
+    /// others, and then no step is counted. It fails for want of memory alone, and then nothing is said of what is kept.
+    pub fn answer<L: Ledger>(
+        &mut self,
+        event: &DriverEvent,
+        prepared: Option<Prepared>,
+        now: Time,
+        references: Option<List<Text>>,
+        steps: &mut Steps<L>,
+    ) -> Result<Renewal, Memory>
+        requires known { IfSome (authority_in event.now) (λ a. a.0 < length self.old.watcher.streams) }
+        requires prepared { IsPreparedFor event.now prepared }
+        requires at { HasSubscribed self.old }
+        ensures step { IfOk result (λ r. (s : Setting) (past : List EntryValue) → AreSubscribedAt s past self.old → IsTimely s past event.now now (names_with references self.old.last) → IsAnsweredAt s past event.now prepared r self.new) }
+        ensures lawful { IfOk result (λ r. IfSome r.made IsLawfulConfig) }
+        ensures still { (last : SettledValue) → IsRepeat (is_report event.now) references self.old.last last → steps.new ≡ steps.old }
+    {
+        let course = course_of(
+            self.watcher.alloc,
+            is_report(event),
+            references,
+            self.last.take(),
+        );
+        match course {
+            Course::Repeats(last) => {
+                let renewal = self.repeat(last)?;
+                Ok(renewal)
+            }
+            Course::Renews(references) => {
+                let renewal = self.renew(event, prepared, now, references, steps)?;
+                Ok(renewal)
+            }
+        }
+    }
+}

@@ -1,0 +1,117 @@
+//! The streams and the keys that are watched.
+ghost use Rattle.std.specs.Prelude.{◌≡◌, ◌≤◌, ◌↔◌, [], ◌∷◌, ℕ, List, length, IfOk, IfSome, IsNone, IsSome};
+ghost use Rattle.xc_base.specs.declared.names.Kind.TheVariants.{Listener as ListenerKind};
+ghost use Rattle.xc_base.specs.declared.names.Time.{Time as TimeValue};
+ghost use Rattle.xc_keys.specs.Keys.{key_cmp};
+ghost use Rattle.xds_config.specs.Configs.{IsLawfulConfig};
+ghost use Rattle.call_journal.specs.declared.event.DriverEvent.{DriverEvent as EventValue};
+ghost use Rattle.call_journal.specs.declared.reply.DriverReply.{DriverReply};
+ghost use Rattle.call_journal.specs.declared.entry.Entry.{Entry as EntryValue};
+ghost use Rattle.config_assembly.specs.Orders.{sorted};
+ghost use Rattle.xds_history.specs.Setting.{Setting, setting_of};
+ghost use Rattle.xds_history.specs.Responses.{Came};
+ghost use Rattle.xds_history.specs.Requests.{requests};
+ghost use Rattle.xds_history.specs.Pages.{came, driven, pages, present_after};
+ghost use Rattle.dep_manager.specs.KeptAssemblies.{HaveChanged};
+ghost use Rattle.book_fates.specs.FateSteps.{WatchesOnly};
+ghost use Rattle.driver_step.specs.DriverSteps.{Assembly, IsAssembly, watched_by};
+ghost use Rattle.book_driver.specs.WatcherKept.{IsHeardBy, IsReachedBy, IsTimely, IsWatcherAt, assembly_with};
+
+use crate::key_set::key_set;
+use book_fates::Fates;
+use book_streams::Streams;
+use call_journal::Sent;
+use dep_manager::{Deps, Outcome};
+use std::alloc::Global;
+use std::sync::ledger::Ledger;
+use watch_timers::Timers;
+use xc_base::{Key, List, Memory, Steps, Text, Time};
+use xds_bootstrap::Bootstrap;
+use xds_cache::Cache;
+use xds_name::Target;
+
+/// The streams of all authorities, what is known of the keys that are watched, and what is reached by it.
+#[derive(Drop)]
+pub struct Watcher {
+    /// Where lists are made.
+    pub alloc: Global,
+    /// The authorities of names, and the node.
+    pub boot: Bootstrap,
+    /// The target, and what is reached.
+    pub deps: Deps,
+    /// A stream for each authority.
+    pub streams: Streams,
+    /// What is known of each watched key, and the timers of those that are waited for.
+    pub fates: Fates,
+}
+
+impl Watcher {
+    /// The streams of this bootstrap, none of which is open, and nothing watched. It fails for want of memory alone.
+    pub fn new(alloc: Global, boot: Bootstrap, target: Target) -> Result<Watcher, Memory>
+        requires listener { target.key.kind ≡ ListenerKind }
+        requires few { length boot.authorities ≤ 65536 }
+        ensures { IfOk result (λ w. IsWatcherAt (setting_of boot target) [] w) }
+    {
+        let streams = Streams::new(alloc, &boot.node, boot.authorities.len())?;
+        let deps = Deps::new(alloc, target)?;
+        Ok(Watcher {
+            alloc,
+            boot,
+            deps,
+            streams,
+            fates: Fates {
+                cache: Cache::new(alloc),
+                timers: Timers::new(alloc),
+                reached: List::new(alloc),
+            },
+        })
+    }
+
+    /// What is reached, awaited and configured by what is known now (gRFC A74), where these are the watched keys of which something
+    /// else may be known than before. The cache watches what is reached from then on. It fails for want of memory alone, and then
+    /// nothing is said of what is kept.
+    pub fn assemble<L: Ledger>(
+        &mut self,
+        changed: &List<Key>,
+        references: &List<Text>,
+        steps: &mut Steps<L>,
+    ) -> Result<Outcome, Memory>
+        requires only { WatchesOnly self.old.fates.cache self.old.fates.reached }
+        requires same { self.old.deps.reached ≡ self.old.fates.reached }
+        requires changed { HaveChanged self.old.boot.authorities self.old.deps self.old.fates.cache changed.now }
+        ensures reached { IfOk result (λ o. (s : Setting) (past : List EntryValue) (c : Came) (now : TimeValue) → IsHeardBy s past c now self.old → IsReachedBy s past c now o.reached self.new) }
+        ensures assembly { IfOk result (λ o. (s : Setting) (past : List EntryValue) (c : Came) (now : TimeValue) → IsHeardBy s past c now self.old → IsTimely s past c.event now references.now → IsAssembly s c past (pages s past) (assembly_with s past o.reached o.missing o.config)) }
+        ensures order { IfOk result (λ o. sorted key_cmp o.reached ≡ o.reached) }
+        ensures whole { IfOk result (λ o. IsSome o.config ↔ IsNone o.missing) }
+        ensures lawful { IfOk result (λ o. IfSome o.config IsLawfulConfig) }
+    {
+        let outcome = self.deps.update(
+            self.alloc,
+            &self.boot,
+            changed,
+            references,
+            &mut self.fates.cache,
+            steps,
+        )?;
+        Ok(outcome)
+    }
+
+    /// Asks for what is reached: the requests that are due, once something came. Timers end and start by them. It fails for
+    /// want of memory alone, and then nothing is said of what is kept.
+    pub fn ask<L: Ledger>(
+        &mut self,
+        reached: List<Key>,
+        now: Time,
+        steps: &mut Steps<L>,
+    ) -> Result<List<Sent>, Memory>
+        requires { sorted key_cmp reached ≡ reached }
+        ensures sent { IfOk result (λ sent. (s : Setting) (past : List EntryValue) (c : Came) (a : Assembly) → IsReachedBy s past c now reached self.old → a.reached ≡ reached → sent ≡ requests s c past (watched_by s c past (pages s past) a)) }
+        ensures kept { IfOk result (λ sent. (s : Setting) (past : List EntryValue) (line : ℕ) (event : EventValue) (reply : DriverReply) (a : Assembly) → IsReachedBy s past (came event reply) now reached self.old → IsAssembly s (came event reply) past (pages s past) a → a.reached ≡ reached → now ≡ (present_after past event).now → reply.sent ≡ sent → IsWatcherAt s (driven 0 line event reply ∷ past) self.new) }
+    {
+        let sent = self.streams.names(reached.as_slice())?;
+        let set = key_set(self.alloc, reached.as_slice())?;
+        self.fates
+            .settle(reached, &set, sent.as_slice(), now, steps)?;
+        Ok(sent)
+    }
+}

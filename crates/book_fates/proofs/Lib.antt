@@ -1,0 +1,12 @@
+pub mod StepLemmas
+pub mod PartLemmas
+pub mod PlaceLemmas
+pub mod WalkLemmas
+pub mod TimeLemmas
+pub mod DueLemmas
+pub mod EntryLemmas
+pub mod AskedLemmas
+pub mod KeptLemmas
+pub mod PageLemmas
+pub mod QuietLemmas
+pub mod NameLemmas

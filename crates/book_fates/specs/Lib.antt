@@ -1,0 +1,5 @@
+pub mod NamedParts
+pub mod FateSteps
+pub mod Timing
+pub mod FatesKept
+pub mod Delivered

@@ -1,0 +1,177 @@
+//! What an answered response, and time, make of what is known of watched keys.
+ghost use Rattle.std.specs.Prelude.{◌≡◌, ◌++◌, ◌∷◌, [], List, Some, IsOk, OnOk, IfOk, filter, if◌then◌else◌, length, option_map};
+ghost use Rattle.xc_base.specs.declared.names.Key.{Key as KeyValue};
+ghost use Rattle.xds_cache.specs.KeptFates.{known_of, shown};
+ghost use Rattle.xds_history.specs.Fates.{has_value, lacks};
+ghost use Rattle.xds_history.specs.Setting.{Setting};
+ghost use Rattle.xds_history.specs.Responses.{Came, answered};
+ghost use Rattle.xds_history.specs.Page.{watched_now};
+ghost use Rattle.xds_history.specs.Fates.{marked};
+ghost use Rattle.xc_base.specs.declared.names.Time.{Time as TimeValue};
+ghost use Rattle.call_journal.specs.declared.entry.Entry.{Entry as EntryValue};
+ghost use Rattle.xds_history.specs.declared.page.Page.{Page as PageValue};
+ghost use Rattle.book_fates.specs.NamedParts.{AreNamesOf};
+ghost use Rattle.book_fates.specs.Delivered.{IsReady, delivered_by, delivered_in, told_as};
+ghost use Rattle.book_fates.specs.FateSteps.{AreLawfulParts, IsLawfulOf, Stepped, gone_among, gone_step, is_let_go, is_touched, out_among, part_step, parts_step, told_step, Knows, WatchesOnly};
+
+use crate::answered::Answered;
+use crate::part_names::lacks;
+use crate::part_tests::{deletes, lives_at, same_kind};
+use resource_check::Delivery;
+use std::alloc::Global;
+use std::sync::ledger::Ledger;
+use xc_base::{Authority, Home, Key, Kind, List, Memory, Steps};
+use xds_cache::{Cache, Fate};
+
+// ---- parts
+
+/// Takes in a resource of a response. It takes no memory.
+fn take_part(
+    cache: &mut Cache,
+    authority: Authority,
+    kind: Kind,
+    part: Delivery,
+) -> Result<(), Memory>
+    requires { IfOk part.result (IsLawfulOf kind) }
+    ensures ok { IsOk result }
+    ensures step { Stepped cache.old cache.new (part_step authority kind part) }
+{
+    let Delivery { name, result } = part;
+    let Some(name) = name else {
+        return Ok(());
+    };
+    let key = Key {
+        kind,
+        name,
+        home: Home::At(authority),
+    };
+    match result {
+        Ok(value) => cache.accept(&key, value),
+        Err(reason) => cache.refuse(&key, reason),
+    }
+}
+
+/// Takes in the resources of a response, from the last one on. It takes no memory.
+fn take_parts(
+    cache: &mut Cache,
+    authority: Authority,
+    kind: Kind,
+    parts: List<Delivery>,
+) -> Result<(), Memory>
+    requires { AreLawfulParts kind parts }
+    ensures ok { IsOk result }
+    ensures step { Stepped cache.old cache.new (parts_step authority kind parts) }
+{
+    let mut left = parts.into_vec();
+    while let Some(part) = left.pop() {
+        take_part(cache, authority, kind, part)?;
+    }
+    Ok(())
+}
+
+// ---- deletions
+
+/// Whether a fate is a value.
+fn has_value(fate: Fate<'_>) -> bool
+    ensures { result ≡ has_value (shown fate.entry) }
+{
+    matches!(fate, Fate::Value(_))
+}
+
+/// Whether a response lacks a key.
+fn lacks_key(response: &Answered, key: &Key) -> bool
+    requires { AreNamesOf response.now.parts response.now.names }
+    ensures { result ≡ lacks (told_as (delivered_in response.now)) key.now }
+{
+    lacks(&response.names, key)
+}
+
+/// Whether a response lets go a key that has this fate.
+fn is_let_go(response: &Answered, key: &Key, fate: Fate<'_>) -> bool
+    requires { AreNamesOf response.now.parts response.now.names }
+    ensures { result ≡ is_let_go (told_as (delivered_in response.now)) key.now (shown fate.entry) }
+{
+    deletes(response.kind)
+        && same_kind(response.kind, key.kind)
+        && lives_at(response.authority, key.home)
+        && lacks_key(response, key)
+        && has_value(fate)
+}
+
+/// Whether a response can change what is known of a key: it is of its kind and home, and names it or may delete it.
+fn is_touched(response: &Answered, key: &Key) -> bool
+    requires { AreNamesOf response.now.parts response.now.names }
+    ensures { result ≡ is_touched (told_as (delivered_in response.now)) key.now }
+{
+    same_kind(response.kind, key.kind)
+        && lives_at(response.authority, key.home)
+        && (deletes(response.kind) || !lacks_key(response, key))
+}
+
+/// Puts a key into a list, where a response can change it.
+fn put_touched(touched: &mut List<Key>, response: &Answered, key: &Key) -> Result<(), Memory>
+    requires { AreNamesOf response.now.parts response.now.names }
+    ensures { OnOk result (touched.new ≡ (if is_touched (told_as (delivered_in response.now)) key.now then touched.old ++ key.now ∷ [] else touched.old)) }
+{
+    if !is_touched(response, key) {
+        return Ok(());
+    }
+    touched.push(key.clone()?)?;
+    Ok(())
+}
+
+/// Those of these keys that a response can change.
+pub fn touched_of(alloc: Global, response: &Answered, keys: &[Key]) -> Result<List<Key>, Memory>
+    requires { AreNamesOf response.now.parts response.now.names }
+    ensures { IfOk result (λ touched. touched ≡ filter (is_touched (told_as (delivered_in response.now))) keys.now) }
+{
+    let mut touched = List::new(alloc);
+    for key in keys {
+        put_touched(&mut touched, response, key)?;
+    }
+    Ok(touched)
+}
+
+/// Lets go those of the keys that the response lacks. It takes no memory.
+fn let_go<L: Ledger>(cache: &mut Cache, response: &Answered, keys: &[Key], steps: &mut Steps<L>)
+    requires { AreNamesOf response.now.parts response.now.names }
+    ensures { Stepped cache.old cache.new (gone_among (told_as (delivered_in response.now)) keys.now) }
+{
+    for key in keys {
+        if is_let_go(response, key, cache.get(key, steps)) {
+            cache.delete(key);
+        }
+    }
+}
+
+/// Takes in an answered response, where no other keys than these are watched. It takes no memory.
+pub fn take_told<L: Ledger>(
+    cache: &mut Cache,
+    response: Answered,
+    keys: &[Key],
+    steps: &mut Steps<L>,
+) -> Result<(), Memory>
+    requires ready { IsReady response }
+    requires only { WatchesOnly cache.old keys.now }
+    ensures ok { IsOk result }
+    ensures step { Stepped cache.old cache.new (told_step (told_as (delivered_in response))) }
+    ensures knows { (s : Setting) (c : Came) (past : List EntryValue) (ps : List PageValue) (now : TimeValue) → option_map delivered_by (answered s c) ≡ Some (delivered_in response) → Knows cache.old (watched_now ps) → Knows cache.new (marked s c past ps now) }
+{
+    let_go(cache, &response, keys, steps);
+    let Answered {
+        authority,
+        kind,
+        parts,
+        ..
+    } = response;
+    take_parts(cache, authority, kind, parts)
+}
+
+/// Takes away these keys, which were waited for in vain. It takes no memory.
+pub fn take_out(cache: &mut Cache, keys: &[Key])
+    ensures { Stepped cache.old cache.new (out_among keys.now) }
+{
+    for key in keys {
+        cache.expire(key);
+    }
+}

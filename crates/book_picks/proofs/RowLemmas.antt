@@ -1,0 +1,164 @@
+-- The row of a cluster that a call holds.
+use Rattle.std.proofs.Common.{◌≡◌, ℕ, List, [], ◌∷◌, map, get_or, refl, sym, ap, ◌∙◌, subst, Option, Some, None}
+use Rattle.std.specs.Prelude.{Result, Ok, option_map, option_and_then, slice_get, position, bytes_eq}
+use Rattle.std.specs.Option.{option_map_or}
+use Rattle.std.proofs.lemmas.List.Quantifiers.{position-Some}
+use Rattle.std.proofs.lemmas.Option.{slice_get-get_or, slice_get-map}
+use Rattle.std.proofs.lemmas.Slice.Eq.{bytes_eq-Decides}
+use Rattle.xc_base.specs.declared.reason.Reason.{Reason}
+use Rattle.xds_config.specs.declared.config.ClusterEntry.{ClusterEntry}
+use Rattle.xds_config.specs.declared.config.Config.{Config}
+use Rattle.xds_config.specs.Configs.{cluster_place}
+use Rattle.tree_steps.specs.declared.tree_view.TreeView.{TreeView}
+use Rattle.cluster_tree.specs.declared.snapshot.Snapshot.{Snapshot}
+use Rattle.call_journal.specs.declared.reply.CallerReply.{CallerReply}
+use Rattle.config_assembly.specs.Orders.{Name}
+use Rattle.xds_history.specs.declared.page.Page.{Page}
+use Rattle.xds_history.specs.declared.page.ClusterTrees.{ClusterTrees}
+use Rattle.xds_history.specs.Page.{config_now, trees_now}
+use Rattle.xds_history.specs.Trees.{Present}
+use Rattle.xds_history.specs.Pickers.{cluster_view, views}
+use Rattle.xds_history.specs.Right.{standing, shown}
+use Rattle.xds_history.specs.Picks.{held_reply, place_in, view_in, view_reply}
+use Rattle.book_picks.specs.declared.cluster_rows.Row.{Row}
+use Rattle.book_picks.specs.declared.kept_turns.Turns.{Turns}
+use Rattle.book_picks.specs.CountedPlaces.{IsRaised, index_of}
+use Rattle.book_picks.specs.ClusterRows.{AreIndexesOf}
+use Rattle.book_picks.specs.ChosenPlaces.{key_of, served}
+use Rattle.book_picks.specs.TakenTurns.{IsOfChild, IsShownAt, TakesTurn, TurnsFor, index_taken, place_taken}
+use Rattle.book_picks.specs.TurnsKept.{AreRowsOf, AreTurnsAt, clusters_of, row_named}
+use Rattle.book_picks.proofs.ServedLemmas.{seen_places, index_at, counted_at}
+
+-- ---- what is shown
+
+pub record IsConfigOf (present : Present) (trees : List ClusterTrees) (config : Option Config) (x : Snapshot) : Type 0 where
+  pub config_is : config ≡ Some x.config
+  pub views_are : x.trees ≡ views present.state trees x.config
+
+pub config_of : (present : Present) (trees : List ClusterTrees) (config : Option Config) (x : Snapshot) → standing present config trees ≡ Some (shown x) → IsConfigOf present trees config x
+config_of present trees None x is = absurd (cc is)
+config_of present trees (Some config) x is =
+    let both : (config, views present.state trees config) ≡ shown x = cc in
+    let first : config ≡ x.config = ap (λ q. q.0) both in record {
+      config_is = ap (λ c. Some c) first;
+      views_are = sym (ap (λ q. q.1) both) ∙ ap (λ c. views present.state trees c) first;
+    }
+
+-- ---- the cluster of a name
+
+record IsNamedAt (clusters : List ClusterEntry) (name : Name) (place : ℕ) : Type 0 where
+  entry : ClusterEntry
+  entry_is : slice_get clusters place ≡ Some entry
+  name_is : entry.name ≡ name
+
+named_at : (clusters : List ClusterEntry) (name : Name) (place : ℕ) → position (λ c. bytes_eq c.name name) clusters ≡ Some place → IsNamedAt clusters name place
+named_at [] name place is = absurd (cc is)
+named_at (c ∷ cs) name place is =
+    let at = position-Some (λ (d : ClusterEntry). bytes_eq d.name name) (c ∷ cs) place c is in
+    let entry : ClusterEntry = get_or (c ∷ cs) place c in record {
+      entry = entry;
+      entry_is = slice_get-get_or (c ∷ cs) place c at.0;
+      name_is = (bytes_eq-Decides entry.name name).0 at.1;
+    }
+
+-- a cluster with a row stands in the configuration, at the row's place
+pub record IsRowAt (clusters : List ClusterEntry) (trees : List ClusterTrees) (t : Turns) (name : Name) (row : Row) : Type 0 where
+  pub entry : ClusterEntry
+  pub place_is : position (λ c. bytes_eq c.name name) clusters ≡ Some row.place
+  pub entry_is : slice_get clusters row.place ≡ Some entry
+  pub name_is : entry.name ≡ name
+  pub indexes_are : AreIndexesOf t.counts row.indexes (map key_of (served trees entry))
+
+one_row : (found : Option Row) (a b : Row) → found ≡ Some a → found ≡ Some b → a ≡ b
+one_row found a b is also = cc
+
+by_place : (clusters : List ClusterEntry) (trees : List ClusterTrees) (t : Turns) (name : Name) (row : Row) (place : Option ℕ) → position (λ c. bytes_eq c.name name) clusters ≡ place →
+    AreRowsOf clusters trees t → row_named t name ≡ Some row → IsRowAt clusters trees t name row
+by_place clusters trees t name row None is rows found = let none = rows.others name is in absurd (cc)
+by_place clusters trees t name row (Some place) is rows found =
+    let named = named_at clusters name place is in
+    let has = rows.each place named.entry named.entry_is in
+    let same : has.row ≡ row = one_row (row_named t name) has.row row (ap (row_named t) (sym named.name_is) ∙ has.found) found in
+    let at : place ≡ row.place = sym has.place_is ∙ ap (λ r. r.place) same in record {
+      entry = named.entry;
+      place_is = is ∙ ap (λ p. Some p) at;
+      entry_is = ap (λ p. slice_get clusters p) (sym at) ∙ named.entry_is;
+      name_is = named.name_is;
+      indexes_are = ap (λ r. map (λ i. Some i) r.indexes) (sym same) ∙ has.indexes_are;
+    }
+
+pub row_at : (clusters : List ClusterEntry) (trees : List ClusterTrees) (t : Turns) (name : Name) (row : Row) → AreRowsOf clusters trees t → row_named t name ≡ Some row → IsRowAt clusters trees t name row
+row_at clusters trees t name row rows found = by_place clusters trees t name row (position (λ c. bytes_eq c.name name) clusters) refl rows found
+
+-- one without a row doesn't
+no_place : (clusters : List ClusterEntry) (trees : List ClusterTrees) (t : Turns) (name : Name) (place : Option ℕ) → position (λ c. bytes_eq c.name name) clusters ≡ place →
+    AreRowsOf clusters trees t → row_named t name ≡ None → place ≡ None
+no_place clusters trees t name None is rows none = refl
+no_place clusters trees t name (Some place) is rows none =
+    let named = named_at clusters name place is in
+    let has = rows.each place named.entry named.entry_is in
+    let found : row_named t name ≡ Some has.row = ap (row_named t) (sym named.name_is) ∙ has.found in absurd (cc)
+
+-- ---- a pick of a cluster that is held
+
+rows_of : (ps : List Page) (t : Turns) (x : Snapshot) (shows : IsShownAt ps x) → AreTurnsAt ps t → AreRowsOf x.config.clusters (trees_now ps) t
+rows_of ps t x shows are =
+    let config = config_of shows.present (trees_now ps) (config_now ps) x shows.shows in
+    subst (λ c. AreRowsOf (clusters_of c) (trees_now ps) t) config.config_is are.rows
+
+replied : (ps : List Page) (word : ℕ) (name : Name) (x : Snapshot) (view : Option (Result TreeView Reason)) → view_in x name ≡ view →
+    held_reply ps word (Some name) (Some x) ≡ option_map_or (view_reply ps name x.number word) view CallerReply.NotHeld
+replied ps word name x view is = ap (λ v. option_map_or (view_reply ps name x.number word) v CallerReply.NotHeld) is
+
+pub none_held : (ps : List Page) (t : Turns) (word : ℕ) (name : Name) (x : Snapshot) → AreTurnsAt ps t → IsShownAt ps x → row_named t name ≡ None →
+    CallerReply.NotHeld ≡ held_reply ps word (Some name) (Some x)
+none_held ps t word name x are shows none =
+    let at : cluster_place x.config name ≡ None = no_place x.config.clusters (trees_now ps) t name (cluster_place x.config name) refl (rows_of ps t x shows are) none in
+    sym (replied ps word name x None (ap (λ p. option_and_then (slice_get x.trees) p) at))
+
+pub seen_held : (ps : List Page) (t : Turns) (word : ℕ) (name : Name) (x : Snapshot) (row : Row) (view : Option (Result TreeView Reason)) → AreTurnsAt ps t → IsShownAt ps x → row_named t name ≡ Some row → slice_get x.trees row.place ≡ view →
+    option_map_or (view_reply ps name x.number word) view CallerReply.NotHeld ≡ held_reply ps word (Some name) (Some x)
+seen_held ps t word name x row view are shows found is =
+    let at = row_at x.config.clusters (trees_now ps) t name row (rows_of ps t x shows are) found in
+    sym (replied ps word name x view (ap (λ p. option_and_then (slice_get x.trees) p) at.place_is ∙ is))
+
+-- the places that the row's indexes are of
+row_places : (ps : List Page) (t : Turns) (name : Name) (x : Snapshot) (row : Row) (view : TreeView) (place : ℕ) → AreTurnsAt ps t → IsShownAt ps x → row_named t name ≡ Some row → slice_get x.trees row.place ≡ Some (Ok view) →
+    option_map (λ i. Some i) (slice_get row.indexes place) ≡ option_map (λ p. index_of t.counts (key_of p)) (place_in (trees_now ps) name view.chosen place)
+row_places ps t name x row view place are shows found is =
+    let config = config_of shows.present (trees_now ps) (config_now ps) x shows.shows in
+    let at = row_at x.config.clusters (trees_now ps) t name row (rows_of ps t x shows are) found in
+    let seen : Some (cluster_view shows.present.state (trees_now ps) at.entry) ≡ Some (Ok view) =
+    sym (ap (λ vs. slice_get vs row.place) config.views_are
+    ∙ slice_get-map (cluster_view shows.present.state (trees_now ps)) x.config.clusters row.place
+    ∙ ap (option_map (cluster_view shows.present.state (trees_now ps))) at.entry_is) ∙ is in
+    let view_is : cluster_view shows.present.state (trees_now ps) at.entry ≡ Ok view = cc in
+    index_at t.counts row.indexes (served (trees_now ps) at.entry) place at.indexes_are
+    ∙ ap (option_map (λ p. index_of t.counts (key_of p))) (seen_places shows.present.state (trees_now ps) at.entry view place view_is ∙ ap (λ n. place_in (trees_now ps) n view.chosen place) at.name_is)
+
+pub turns_for : (ps : List Page) (t : Turns) (name : Name) (x : Snapshot) (row : Row) (view : TreeView) → AreTurnsAt ps t → IsShownAt ps x → row_named t name ≡ Some row → slice_get x.trees row.place ≡ Some (Ok view) → TurnsFor ps name view.chosen row t.counts
+turns_for ps t name x row view are shows found is place =
+    counted_at ps t.counts (slice_get row.indexes place) (place_in (trees_now ps) name view.chosen place) are.counted (row_places ps t name x row view place are shows found is)
+
+index_is : (ps : List Page) (t : Turns) (name : Name) (x : Snapshot) (row : Row) (view : TreeView) (reply : CallerReply) → AreTurnsAt ps t → IsShownAt ps x → row_named t name ≡ Some row → slice_get x.trees row.place ≡ Some (Ok view) → IsOfChild view.chosen reply →
+    option_map (λ i. Some i) (index_taken row reply) ≡ option_map (λ p. index_of t.counts (key_of p)) (place_taken ps name reply)
+index_is ps t name x row view (CallerReply.Endpoint number child locality place) are shows found is of =
+    row_places ps t name x row view locality are shows found is
+    ∙ ap (λ c. option_map (λ p. index_of t.counts (key_of p)) (place_in (trees_now ps) name c locality)) (sym of)
+index_is ps t name x row view (CallerReply.Pinned number) are shows found is of = refl
+index_is ps t name x row view CallerReply.NoSnapshot are shows found is of = refl
+index_is ps t name x row view (CallerReply.Routed number answer) are shows found is of = refl
+index_is ps t name x row view (CallerReply.Queue number) are shows found is of = refl
+index_is ps t name x row view (CallerReply.Fail number reason) are shows found is of = refl
+index_is ps t name x row view (CallerReply.Drop number rule) are shows found is of = refl
+index_is ps t name x row view CallerReply.NotHeld are shows found is of = refl
+index_is ps t name x row view CallerReply.Released are shows found is of = refl
+
+pub takes_turn : (ps : List Page) (t new : Turns) (name : Name) (x : Snapshot) (row : Row) (view : TreeView) (reply : CallerReply) → AreTurnsAt ps t → IsShownAt ps x → row_named t name ≡ Some row → slice_get x.trees row.place ≡ Some (Ok view) → IsOfChild view.chosen reply →
+    new.rows ≡ t.rows → IsRaised t.counts new.counts (index_taken row reply) → TakesTurn ps name reply t new
+takes_turn ps t new name x row view reply are shows found is of rows raised = record {
+  rows = rows;
+  index = index_taken row reply;
+  raised = raised;
+  index_is = index_is ps t name x row view reply are shows found is of;
+}

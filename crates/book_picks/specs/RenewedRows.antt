@@ -1,0 +1,72 @@
+-- The rows of clusters after a driver's entry.
+use Rattle.std.specs.Prelude.{◌≡◌, ℕ, Bool, true, false, List, Option, Some, None, Result, Ok, Err, get_or, slice_get, position, bytes_eq}
+use Rattle.std.specs.Option.{option_map_or}
+use Rattle.xc_base.specs.declared.names.State.{State}
+use Rattle.xc_base.specs.declared.reason.Reason.{Reason}
+use Rattle.xds_config.specs.declared.config.ClusterEntry.{ClusterEntry}
+use Rattle.xds_config.specs.declared.config.Config.{Config}
+use Rattle.xds_config.specs.declared.config.Leaves.{Leaves}
+use Rattle.tree_steps.specs.declared.tree_view.NamedChild.{NamedChild}
+use Rattle.tree_steps.specs.declared.tree_view.TreeView.{TreeView}
+use Rattle.cluster_tree.specs.declared.snapshot.Snapshot.{Snapshot}
+use Rattle.cluster_tree.specs.StandingTrees.{Forest}
+use Rattle.cluster_tree.specs.ViewChanges.{localities_at}
+use Rattle.call_journal.specs.declared.event.DriverEvent.{DriverEvent}
+use Rattle.call_journal.specs.declared.reply.DriverReply.{DriverReply}
+use Rattle.call_journal.specs.declared.entry.What.{What}
+use Rattle.call_journal.specs.declared.entry.Entry.{Entry}
+use Rattle.config_assembly.specs.Orders.{Name}
+use Rattle.xds_history.specs.Setting.{Setting}
+use Rattle.xds_history.specs.declared.page.ClusterTrees.{ClusterTrees}
+use Rattle.xds_history.specs.declared.page.Page.{Page}
+use Rattle.xds_history.specs.Page.{config_now, trees_now}
+use Rattle.xds_history.specs.Pages.{page_of, pages}
+use Rattle.xds_history.specs.Pickers.{cluster_view}
+use Rattle.book_picks.specs.declared.place_counts.PlaceKey.{PlaceKey}
+use Rattle.book_picks.specs.declared.kept_turns.Turns.{Turns}
+use Rattle.book_picks.specs.CountedPlaces.{Extends}
+use Rattle.book_picks.specs.ClusterRows.{keys_of}
+use Rattle.book_picks.specs.ChosenPlaces.{localities_served}
+use Rattle.book_picks.specs.TurnsKept.{HasRow, row_named}
+
+-- the chosen child that is seen
+abbrev pub child_seen : Result TreeView Reason → Option NamedChild
+child_seen (Ok view) = slice_get view.children view.chosen
+child_seen (Err reason) = None
+
+abbrev pub view_at : Snapshot → ℕ → Result TreeView Reason
+view_at snapshot place = option_map_or (λ seen. seen) (slice_get snapshot.trees place) (Err Reason.Failing)
+
+-- the localities of the chosen child of the cluster at a place, which has this name
+abbrev pub keys_at : Forest → Snapshot → ℕ → Name → List PlaceKey
+keys_at forest snapshot place name = keys_of name (child_seen (view_at snapshot place)) (localities_at forest place)
+
+-- clusters that are marked have rows by what is seen now, and the others have those from before
+pub record AreRenewed (forest : Forest) (snapshot : Snapshot) (marks : List Bool) (old new : Turns) : Type 0 where
+  pub fresh : (place : ℕ) (entry : ClusterEntry) → slice_get snapshot.config.clusters place ≡ Some entry → get_or marks place false ≡ true → HasRow new entry.name place (keys_at forest snapshot place entry.name)
+  pub kept : (place : ℕ) (entry : ClusterEntry) (keys : List PlaceKey) → slice_get snapshot.config.clusters place ≡ Some entry → get_or marks place false ≡ false → HasRow old entry.name place keys → HasRow new entry.name place keys
+  pub others : (name : Name) → position (λ c. bytes_eq c.name name) snapshot.config.clusters ≡ None → row_named old name ≡ None → row_named new name ≡ None
+  pub extends : Extends old.counts new.counts
+
+-- what is seen of a cluster stays, and so do the localities of its chosen child
+pub record StaysServed (before after : List ClusterTrees) (entry : ClusterEntry) : Type 0 where
+  pub states_before : Name → State
+  pub states_after : Name → State
+  pub view : cluster_view states_before before entry ≡ cluster_view states_after after entry
+  pub localities : localities_served before entry ≡ localities_served after entry
+
+-- the forest has the localities that are served of each cluster
+abbrev pub ServesLocalities : Forest → Config → List ClusterTrees → Type 0
+ServesLocalities forest config trees = (place : ℕ) (entry : ClusterEntry) (leaves : Leaves) → slice_get config.clusters place ≡ Some entry → entry.state ≡ Ok leaves → localities_at forest place ≡ localities_served trees entry
+
+-- the configuration stays, and so does what is served of each cluster that isn't marked
+pub record AreMarksOf (marks : List Bool) (config : Config) (before : List Page) (after : List ClusterTrees) : Type 0 where
+  pub config_stays : config_now before ≡ Some config
+  pub stay : (place : ℕ) (entry : ClusterEntry) → slice_get config.clusters place ≡ Some entry → get_or marks place false ≡ false → StaysServed (trees_now before) after entry
+
+-- a driver's entry at which this snapshot is published
+pub record IsPublishedAt (s : Setting) (past : List Entry) (e : Entry) (snapshot : Snapshot) : Type 0 where
+  pub event : DriverEvent
+  pub reply : DriverReply
+  pub what_is : e.what ≡ What.Driver event reply
+  pub snapshot_is : (page_of s e e.what past (pages s past)).snapshot ≡ Some snapshot

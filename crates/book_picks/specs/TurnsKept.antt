@@ -1,0 +1,54 @@
+-- What is kept of picks, and what it is of the history.
+use Rattle.std.specs.Prelude.{◌≡◌, ℕ, List, [], map, Option, Some, None, option_map, slice_get, position, bytes_eq}
+use Rattle.std.specs.Option.{option_map_or}
+use Rattle.std.specs.Ordering.{is_eq}
+use Rattle.std.specs.Map.{lookup}
+use Rattle.xc_base.specs.declared.names.CallId.{CallId}
+use Rattle.xds_config.specs.declared.config.ClusterEntry.{ClusterEntry}
+use Rattle.xds_config.specs.declared.config.Config.{Config}
+use Rattle.cluster_tree.specs.declared.snapshot.Snapshot.{Snapshot}
+use Rattle.config_assembly.specs.Orders.{Name, name_cmp}
+use Rattle.xds_history.specs.declared.page.ClusterTrees.{ClusterTrees}
+use Rattle.xds_history.specs.declared.page.Page.{Page}
+use Rattle.xds_history.specs.Page.{config_now, trees_now, latest}
+use Rattle.xds_history.specs.References.{held}
+use Rattle.xds_history.specs.Trees.{Present}
+use Rattle.xds_history.specs.Right.{standing, shown}
+use Rattle.xds_history.specs.Picks.{Place, turn}
+use Rattle.book_picks.specs.declared.place_counts.PlaceKey.{PlaceKey}
+use Rattle.book_picks.specs.declared.cluster_rows.Row.{Row}
+use Rattle.book_picks.specs.declared.kept_turns.Turns.{Turns}
+use Rattle.book_picks.specs.CountedPlaces.{AreNumbered, count_of}
+use Rattle.book_picks.specs.ClusterRows.{AreIndexesOf}
+use Rattle.book_picks.specs.ChosenPlaces.{key_of, served}
+
+abbrev pub row_named : Turns → Name → Option Row
+row_named turns name = lookup (λ other. is_eq (name_cmp name other)) turns.rows.entries
+
+-- the cluster of this name has a row: its place, and where the counts of these localities stand
+pub record HasRow (turns : Turns) (name : Name) (place : ℕ) (keys : List PlaceKey) : Type 0 where
+  pub row : Row
+  pub found : row_named turns name ≡ Some row
+  pub place_is : row.place ≡ place
+  pub indexes_are : AreIndexesOf turns.counts row.indexes keys
+
+-- each cluster has its row, and nothing else has one
+pub record AreRowsOf (clusters : List ClusterEntry) (trees : List ClusterTrees) (turns : Turns) : Type 0 where
+  pub each : (place : ℕ) (entry : ClusterEntry) → slice_get clusters place ≡ Some entry → HasRow turns entry.name place (map key_of (served trees entry))
+  pub others : (name : Name) → position (λ c. bytes_eq c.name name) clusters ≡ None → row_named turns name ≡ None
+
+abbrev pub clusters_of : Option Config → List ClusterEntry
+clusters_of config = option_map_or (λ c. c.clusters) config []
+
+-- after these entries: each count is the turn of its place, and the rows are those of the clusters that stand
+pub record AreTurnsAt (ps : List Page) (turns : Turns) : Type 0 where
+  pub numbered : AreNumbered turns.counts
+  pub counted : (place : Place) → count_of turns.counts (key_of place) ≡ turn place ps
+  pub rows : AreRowsOf (clusters_of (config_now ps)) (trees_now ps) turns
+
+-- the call holds this cluster, or none, and this is the latest snapshot, which shows what stands
+pub record IsPickAt (ps : List Page) (id : CallId) (cluster : Option Name) (snapshot : Option Snapshot) : Type 0 where
+  pub held_is : held ps id ≡ cluster
+  pub latest_is : latest ps ≡ snapshot
+  pub present : Present
+  pub shows : standing present (config_now ps) (trees_now ps) ≡ option_map shown snapshot

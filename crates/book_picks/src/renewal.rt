@@ -1,0 +1,111 @@
+//! The rows of clusters after a driver's entry.
+ghost use Rattle.std.specs.Prelude.{◌≡◌, ◌≢◌, ◌<◌, ◌^◌, ◌∷◌, ℕ, List, Some, false, length, get_or, slice_get, option_copied, OnOk};
+ghost use Rattle.xds_config.specs.Configs.{IsLawfulConfig};
+ghost use Rattle.cluster_tree.specs.ViewChanges.{localities_at};
+ghost use Rattle.config_assembly.specs.Orders.{Name};
+ghost use Rattle.call_journal.specs.declared.entry.Entry.{Entry as EntryValue};
+ghost use Rattle.xds_history.specs.Setting.{Setting};
+ghost use Rattle.xds_history.specs.Page.{trees_now};
+ghost use Rattle.xds_history.specs.Pages.{pages};
+ghost use Rattle.book_picks.specs.CountedPlaces.{Extends};
+ghost use Rattle.book_picks.specs.ClusterRows.{keys_of};
+ghost use Rattle.book_picks.specs.TurnsKept.{AreTurnsAt, HasRow, row_named};
+ghost use Rattle.book_picks.specs.RenewedRows.{AreMarksOf, AreRenewed, IsPublishedAt, ServesLocalities, child_seen, keys_at};
+
+use crate::cluster_rows::{Row, indexes_of};
+use crate::kept_turns::Turns;
+use cluster_tree::{NamedChild, Snapshot, TreeView, Trees};
+use std::collections::BTreeMap;
+use xc_base::{Memory, Reason, Shared, Text};
+
+/// The chosen child that is seen of a cluster.
+fn chosen_child(seen: &Result<Shared<TreeView>, Reason>) -> Option<&NamedChild>
+    ensures { option_copied result ≡ child_seen seen.now }
+{
+    match seen {
+        Ok(view) => {
+            let view = view.get();
+            view.children.as_slice().get(view.chosen as usize)
+        }
+        Err(_) => None,
+    }
+}
+
+impl Turns {
+    /// Brings the rows to the snapshot that a driver's entry publishes. A place that stays or comes back goes on with its own
+    /// count. Where the configuration is that of the driver's entry before, only the clusters that are marked are looked at:
+    /// those of which something else is seen. It fails for want of memory alone, and then nothing is said of what is kept.
+    pub fn renew(
+        &mut self,
+        trees: &Trees,
+        snapshot: &Snapshot,
+        marks: &[bool],
+        is_new: bool,
+    ) -> Result<(), Memory>
+        requires lawful { IsLawfulConfig snapshot.now.config }
+        requires views { length snapshot.now.trees ≡ length snapshot.now.config.clusters }
+        requires marks { length marks.now ≡ length snapshot.now.config.clusters }
+        ensures { OnOk result ((s : Setting) (past : List EntryValue) (e : EntryValue) → AreTurnsAt (pages s past) self.old → IsPublishedAt s past e snapshot.now → ServesLocalities trees.entry.now snapshot.now.config (trees_now (pages s (e ∷ past))) → (is_new ≡ false → AreMarksOf marks.now snapshot.now.config (pages s past) (trees_now (pages s (e ∷ past)))) → AreTurnsAt (pages s (e ∷ past)) self.new) }
+    {
+        if is_new {
+            self.renew_all(trees, snapshot)?;
+            return Ok(());
+        }
+        self.renew_rows(trees, snapshot, marks)?;
+        Ok(())
+    }
+
+    /// Makes the rows of all clusters anew.
+    fn renew_all(&mut self, trees: &Trees, snapshot: &Snapshot) -> Result<(), Memory>
+        requires lawful { IsLawfulConfig snapshot.now.config }
+        requires views { length snapshot.now.trees ≡ length snapshot.now.config.clusters }
+        ensures { OnOk result ((s : Setting) (past : List EntryValue) (e : EntryValue) → AreTurnsAt (pages s past) self.old → IsPublishedAt s past e snapshot.now → ServesLocalities trees.entry.now snapshot.now.config (trees_now (pages s (e ∷ past))) → AreTurnsAt (pages s (e ∷ past)) self.new) }
+    {
+        self.rows = BTreeMap::new(self.alloc);
+        let marks = vec![in self.alloc; true; snapshot.config.get().clusters.len()]?;
+        self.renew_rows(trees, snapshot, &marks)?;
+        Ok(())
+    }
+
+    /// Makes the rows of the clusters that are marked anew, and leaves the others.
+    fn renew_rows(
+        &mut self,
+        trees: &Trees,
+        snapshot: &Snapshot,
+        marks: &[bool],
+    ) -> Result<(), Memory>
+        requires lawful { IsLawfulConfig snapshot.now.config }
+        requires views { length snapshot.now.trees ≡ length snapshot.now.config.clusters }
+        requires marks { length marks.now ≡ length snapshot.now.config.clusters }
+        ensures { OnOk result (AreRenewed trees.entry.now snapshot.now marks.now self.old self.new) }
+    {
+        let entries = snapshot.config.get().clusters.as_slice();
+        let views = snapshot.trees.as_slice();
+        for place in 0..entries.len() {
+            if marks[place] {
+                let name = &entries[place].get().name;
+                self.renew_row(trees, place as u32, name, &views[place])?;
+            }
+        }
+        Ok(())
+    }
+
+    /// Makes the row of a cluster anew.
+    fn renew_row(
+        &mut self,
+        trees: &Trees,
+        place: u32,
+        cluster: &Text,
+        seen: &Result<Shared<TreeView>, Reason>,
+    ) -> Result<(), Memory>
+        ensures row { OnOk result (HasRow self.new cluster.now place (keys_of cluster.now (child_seen seen.now) (localities_at trees.entry.now place))) }
+        ensures others { OnOk result ((other : Name) → other ≢ cluster.now → row_named self.new other ≡ row_named self.old other) }
+        ensures extends { OnOk result (Extends self.old.counts self.new.counts) }
+    {
+        let localities = trees.localities(place)?;
+        let child = chosen_child(seen);
+        let indexes = indexes_of(self.alloc, &mut self.counts, cluster, child, &localities)?;
+        self.rows.insert(cluster.clone()?, Row { place, indexes })?;
+        Ok(())
+    }
+}

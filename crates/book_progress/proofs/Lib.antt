@@ -1,0 +1,5 @@
+pub mod CountLemmas
+pub mod TallyLemmas
+pub mod PlayLemmas
+pub mod EndLemmas
+pub mod JournalLemmas

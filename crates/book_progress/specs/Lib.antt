@@ -1,0 +1,4 @@
+pub mod ActorCounts
+pub mod EndedLines
+pub mod PlayedPlans
+pub mod ProgressKept

@@ -1,0 +1,4 @@
+pub mod StreamsKept
+pub mod Telling
+pub mod RefusalText
+pub mod StreamsLaws

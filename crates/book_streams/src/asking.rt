@@ -1,0 +1,111 @@
+//! The names for which one stream asks.
+ghost use Rattle.std.specs.Prelude.{◌≡◌, ◌++◌, ◌∷◌, [], map, IfOk, OnOk};
+ghost use Rattle.ads_stream.specs.StreamSteps.{names_told, requests_due};
+ghost use Rattle.xc_keys.specs.Keys.{kind_place};
+ghost use Rattle.xds_history.specs.Requests.{sent_to};
+ghost use Rattle.book_streams.specs.StreamsKept.{is_asked_of, key_names, names_among};
+
+use ads_stream::{Names, Stream};
+use call_journal::Sent;
+use proto_discovery::Request;
+use std::alloc::Global;
+use xc_base::{Authority, Home, Key, Kind, List, Memory, Text};
+
+/// The place of a kind in the order of kinds.
+fn kind_place(kind: Kind) -> u8
+    ensures { result ≡ kind_place kind }
+{
+    match kind {
+        Kind::Listener => 0,
+        Kind::Route => 1,
+        Kind::Cluster => 2,
+        Kind::Endpoint => 3,
+    }
+}
+
+/// Whether a key is of a kind and lives at an authority.
+fn is_asked_of(authority: Authority, kind: Kind, key: &Key) -> bool
+    ensures { result ≡ is_asked_of authority kind key.now }
+{
+    match key.home {
+        Home::At(other) => kind_place(key.kind) == kind_place(kind) && authority.0 == other.0,
+        Home::Nowhere(_) => false,
+    }
+}
+
+/// Adds the name of a key, where it is of a kind and lives at an authority.
+fn add_name(
+    authority: Authority,
+    kind: Kind,
+    key: &Key,
+    names: &mut List<Text>,
+) -> Result<(), Memory>
+    ensures { OnOk result (names.new ≡ names.old ++ key_names authority kind (key.now ∷ [])) }
+{
+    if is_asked_of(authority, kind, key) {
+        names.push(key.name.clone()?)?;
+    }
+    Ok(())
+}
+
+/// The names of the keys of an authority and kind, in their order. It fails for want of memory alone.
+pub fn key_names(
+    alloc: Global,
+    authority: Authority,
+    kind: Kind,
+    keys: &[Key],
+) -> Result<List<Text>, Memory>
+    ensures { IfOk result (λ names. names ≡ key_names authority kind keys.now) }
+{
+    let mut names = List::new(alloc);
+    for key in keys {
+        add_name(authority, kind, key, &mut names)?;
+    }
+    Ok(names)
+}
+
+/// The names of the keys of an authority, kind by kind. It fails for want of memory alone.
+pub fn names_among(alloc: Global, authority: Authority, keys: &[Key]) -> Result<Names, Memory>
+    ensures { IfOk result (λ names. names ≡ names_among keys.now authority) }
+{
+    Ok(Names {
+        listener: key_names(alloc, authority, Kind::Listener, keys)?,
+        route: key_names(alloc, authority, Kind::Route, keys)?,
+        cluster: key_names(alloc, authority, Kind::Cluster, keys)?,
+        endpoint: key_names(alloc, authority, Kind::Endpoint, keys)?,
+    })
+}
+
+/// Adds requests to an authority.
+fn add_sent(
+    authority: Authority,
+    requests: List<Request>,
+    sent: &mut List<Sent>,
+) -> Result<(), Memory>
+    ensures { OnOk result (sent.new ≡ sent.old ++ map (sent_to authority) requests) }
+{
+    for request in requests.into_vec() {
+        sent.push(Sent { authority, request })?;
+    }
+    Ok(())
+}
+
+/// Tells a stream which keys are watched, and adds the requests that are due on it. A stream that is down costs nothing. It
+/// fails for want of memory alone.
+pub fn tell(
+    alloc: Global,
+    authority: Authority,
+    stream: &mut Stream,
+    keys: &[Key],
+    sent: &mut List<Sent>,
+) -> Result<(), Memory>
+    ensures sent { OnOk result (sent.new ≡ sent.old ++ map (sent_to authority) (requests_due stream.old (names_among keys.now authority))) }
+    ensures state { OnOk result (stream.new ≡ names_told stream.old (names_among keys.now authority)) }
+{
+    if !stream.is_up() {
+        return Ok(());
+    }
+    let names = names_among(alloc, authority, keys)?;
+    let requests = stream.names(&names)?;
+    add_sent(authority, requests, sent)
+}

@@ -1,0 +1,14 @@
+use Rattle.book_trees.proofs.FollowLemmas.{marks_follow, trees_kept, views_follow}
+use Rattle.book_trees.proofs.reported_trees.ReportedTrees.follow.Goals as goal
+
+pub returns-clause-views : goal.returns-clause-views
+returns-clause-views c = λ past ps at.
+    views_follow c.args.event.now past ps c.args.self.now c.args.config.now c.update.new.self c.in_ok-seen.seen.views c.requires.lawful c.in_ok-seen.ensures.step c.in_ok-seen.ensures.views at
+
+pub returns-clause-changed : goal.returns-clause-changed
+returns-clause-changed c = λ past ps at.
+    marks_follow c.args.event.now past ps c.args.self.now c.args.config.now c.update.new.self c.in_ok-seen.seen.views c.in_ok-seen.seen.changed.items c.requires.lawful c.in_ok-seen.ensures.step c.in_ok-seen.ensures.views c.in_ok-seen.ensures.changed at
+
+pub returns-clause-kept : goal.returns-clause-kept
+returns-clause-kept c = λ past ps actor line reply page at of.
+    trees_kept c.args.event.now past ps actor line reply page c.args.self.now c.args.config.now c.update.new.self c.requires.lawful c.in_ok-seen.ensures.step c.in_ok-seen.ensures.updated at of

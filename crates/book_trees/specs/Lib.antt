@@ -1,0 +1,3 @@
+pub mod TreesKept
+pub mod ServedPlaces
+pub mod ReportedLaws

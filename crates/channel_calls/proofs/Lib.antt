@@ -1,0 +1,2 @@
+pub mod GatedSteps
+pub mod LaneSteps

@@ -1,0 +1,3 @@
+pub mod ChannelFaults
+pub mod ChannelPlans
+pub mod LockedBooks

@@ -1,0 +1,3 @@
+pub mod Assignments
+pub mod ClusterTable
+pub mod Places

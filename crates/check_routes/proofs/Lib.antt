@@ -1,0 +1,4 @@
+pub mod FairRoutes
+pub mod HostLemmas
+pub mod RouteLemmas
+pub mod SplitLemmas

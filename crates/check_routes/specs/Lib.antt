@@ -1,0 +1,4 @@
+pub mod HeaderTable
+pub mod LawfulRoutes
+pub mod ListenerTable
+pub mod RouteTable

@@ -1,0 +1,3 @@
+pub mod FateRows
+pub mod StreamRows
+pub mod TimerRows

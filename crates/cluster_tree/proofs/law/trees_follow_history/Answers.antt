@@ -1,5 +1,0 @@
-use Rattle.cluster_tree.proofs.HistoryLemmas.{trees_follow_history}
-use Rattle.cluster_tree.proofs.law.trees_follow_history.Goals as goal
-
-pub returns : goal.returns
-returns c = trees_follow_history

@@ -1,9 +1,0 @@
-use Rattle.std.proofs.Common.{◌≡◌, length, take}
-use Rattle.cluster_tree.specs.Users.{MarksUsers}
-use Rattle.cluster_tree.proofs.users.marks_of.Given as goal
-
-abbrev pub invariant-loop-address : goal.invariant-loop-address
-invariant-loop-address l = record {
-  count : length l.marks.items ≡ l.count;
-  marked : MarksUsers l.users (take l.address-index l.changed) l.marks.items;
-}

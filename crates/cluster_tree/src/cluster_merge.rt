@@ -1,0 +1,164 @@
+//! Clusters before and after an update, side by side in the order of their names.
+ghost use Rattle.std.specs.Prelude.{◌≡◌, ◌<◌, ◌≤◌, ◌++◌, ◌∷◌, ◌↔◌, ◌||◌, ℕ, [], length, get_or, option_map, true, false, Some, not, nat_lt, IsTrue, IfOk, IfSome, OnOk};
+ghost use Rattle.xds_config.specs.Configs.{AreLawfulLeaves, IsNameBefore};
+ghost use Rattle.cluster_tree.specs.declared.cluster_trees.Cluster.{Cluster as ClusterValue};
+ghost use Rattle.cluster_tree.specs.StandingTrees.{cluster_after, cluster_named, is_quiet_in};
+ghost use Rattle.cluster_tree.specs.ClusterUsers.{AreRising, IsReached, StaysUnmarked};
+ghost use Rattle.cluster_tree.specs.ViewChanges.{seen_of, IsChangeMark};
+
+use crate::cluster_trees::{Cluster, NextCluster, cluster_after, is_quiet_cluster, share_cluster};
+use std::alloc::Global;
+use std::cmp::Ordering;
+use std::collections::BTreeMap;
+use xc_base::{Address, Memory, Same, Shared, State, Text, Time};
+use xds_config::ClusterEntry;
+
+/// The times of an update and of the one before it.
+#[derive(Clone, Copy)]
+pub(crate) struct Times {
+    pub(crate) last: Time,
+    pub(crate) this: Time,
+}
+
+/// An update as a cluster sees it.
+#[derive(Clone, Copy)]
+pub(crate) struct Turn {
+    pub(crate) times: Times,
+    /// Whether the cluster reads an address whose state changed.
+    pub(crate) marked: bool,
+}
+
+/// The clusters of a configuration after an update.
+#[derive(Drop)]
+pub(crate) struct NextClusters {
+    pub(crate) clusters: Vec<Cluster>,
+    /// For each, whether what is seen of it differs from before.
+    pub(crate) changed: Vec<bool>,
+    /// For each, whether it isn't the cluster that stood at its place.
+    pub(crate) anew: Vec<bool>,
+}
+
+impl NextClusters {
+    /// No clusters. It takes no memory.
+    pub(crate) fn new(alloc: Global) -> NextClusters
+        ensures clusters { result.clusters.items ≡ [] }
+        ensures changed { result.changed.items ≡ [] }
+        ensures anew { result.anew.items ≡ [] }
+    {
+        NextClusters {
+            clusters: Vec::new(alloc),
+            changed: Vec::new(alloc),
+            anew: Vec::new(alloc),
+        }
+    }
+
+    /// One more cluster, which has the place that it had before or another one.
+    pub(crate) fn push(&mut self, next: NextCluster, moved: bool) -> Result<(), Memory>
+        ensures clusters { OnOk result (self.new.clusters.items ≡ self.old.clusters.items ++ next.cluster ∷ []) }
+        ensures changed { OnOk result (self.new.changed.items ≡ self.old.changed.items ++ next.changed ∷ []) }
+        ensures anew { OnOk result (self.new.anew.items ≡ self.old.anew.items ++ (next.anew || moved) ∷ []) }
+    {
+        self.clusters.push(next.cluster)?;
+        self.changed.push(next.changed)?;
+        self.anew.push(next.anew || moved)?;
+        Ok(())
+    }
+}
+
+/// Whether a name stands before another.
+fn is_before(name: &Text, other: &Text) -> bool
+    ensures { IsTrue result ↔ IsNameBefore name.now other.now }
+{
+    matches!(name.cmp(other), Ordering::Less)
+}
+
+/// The first place, from one on, whose cluster doesn't stand before the name.
+pub(crate) fn first_not_before(clusters: &[Cluster], from: usize, name: &Text) -> usize
+    requires within { from ≤ length clusters.now }
+    requires passed { (k : ℕ) (d : ClusterValue) → k < from → IsNameBefore (get_or clusters.now k d).entry.name name.now }
+    ensures { IsReached clusters.now name.now result }
+{
+    for place in from..clusters.len() {
+        if !is_before(&clusters[place].entry.get().name, name) {
+            return place;
+        }
+    }
+    clusters.len()
+}
+
+/// The cluster of a name, which can only stand at this place.
+pub(crate) fn named_at<'a>(
+    clusters: &'a [Cluster],
+    place: usize,
+    name: &Text,
+) -> Option<&'a Cluster>
+    requires rising { AreRising clusters.now }
+    requires place { IsReached clusters.now name.now place }
+    ensures named { option_map (λ r. r.now) result ≡ cluster_named name.now clusters.now }
+    ensures here { IfSome (option_map (λ r. r.now) result) (λ c. (place < length clusters.now) × (get_or clusters.now place c ≡ c)) }
+{
+    let cluster = clusters.get(place)?;
+    if cluster.entry.get().name.same(name) {
+        Some(cluster)
+    } else {
+        None
+    }
+}
+
+/// The mark at a place; there is none where there is no such place.
+pub(crate) fn is_marked(marks: &[bool], place: usize) -> bool
+    ensures { result ≡ get_or marks.now place false }
+{
+    match marks.get(place) {
+        Some(mark) => *mark,
+        None => false,
+    }
+}
+
+/// Whether a cluster has to take an update.
+pub(crate) fn is_due(cluster: &Cluster, turn: Turn) -> bool
+    ensures { result ≡ (turn.marked || not (is_quiet_in cluster.now.state) || nat_lt turn.times.this.0 turn.times.last.0) }
+{
+    turn.marked || !is_quiet_cluster(cluster) || turn.times.this.0 < turn.times.last.0
+}
+
+/// Whether a cluster stays as it is: its entry does, and it doesn't have to take the update.
+fn stays(cluster: &Cluster, entry: &ClusterEntry, turn: Turn) -> bool
+    ensures due { result ≡ true → (turn.marked || not (is_quiet_in cluster.now.state) || nat_lt turn.times.this.0 turn.times.last.0) ≡ false }
+    ensures same { result ≡ true → cluster.now.entry ≡ entry.now }
+{
+    !is_due(cluster, turn) && cluster.entry.get().same(entry)
+}
+
+/// A cluster that stays as it is.
+fn same_cluster(cluster: &Cluster) -> Result<NextCluster, Memory>
+    ensures changed { IfOk result (λ next. IsChangeMark next.changed (Some (seen_of cluster.now)) (seen_of next.cluster)) }
+    ensures cluster { IfOk result (λ next. next.cluster ≡ cluster.now) }
+{
+    Ok(NextCluster {
+        cluster: share_cluster(cluster)?,
+        changed: false,
+        anew: false,
+    })
+}
+
+/// The cluster of an entry after an update, or want of memory. It is made anew only where the entry isn't the same as
+/// before, or the cluster has to take the update.
+pub(crate) fn next_cluster(
+    alloc: Global,
+    reports: &BTreeMap<Address, State>,
+    turn: Turn,
+    entry: &Shared<ClusterEntry>,
+    before: Option<&Cluster>,
+) -> Result<NextCluster, Memory>
+    requires lawful { IfOk entry.now.state AreLawfulLeaves }
+    requires unmarked { IfSome (option_map (λ r. r.now) before) (λ c. StaysUnmarked turn.times.last turn.times.this reports.now.entries turn.marked c) }
+    ensures changed { IfOk result (λ next. IsChangeMark next.changed (option_map seen_of (option_map (λ r. r.now) before.entry)) (seen_of next.cluster)) }
+    ensures cluster { IfOk result (λ next. next.cluster ≡ cluster_after turn.times.this reports.now.entries entry.now (option_map (λ r. r.now) before.entry)) }
+    ensures anew { IfOk result (λ next. next.anew ≡ false → option_map (λ r. r.now) before.entry ≡ Some next.cluster) }
+{
+    match before {
+        Some(cluster) if stays(cluster, entry.get(), turn) => same_cluster(cluster),
+        _ => cluster_after(alloc, reports, turn.times.this, entry, before),
+    }
+}

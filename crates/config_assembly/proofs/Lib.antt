@@ -1,0 +1,6 @@
+pub mod LawfulLemmas
+pub mod Members
+pub mod OrderLemmas
+pub mod ReachLemmas
+pub mod TableLemmas
+pub mod WatchLemmas

@@ -1,0 +1,41 @@
+use Rattle.std.proofs.Common.{◌≡◌, sym, ap, ◌∙◌, subst}
+use Rattle.xc_base.specs.declared.names.Kind.{Kind}
+use Rattle.config_assembly.specs.ReachedResources.{Resources, resources}
+use Rattle.config_assembly.specs.Watching.{IsWatching}
+use Rattle.dep_manager.specs.EndpointNews.{are_endpoints}
+use Rattle.dep_manager.specs.KeptAssemblies.{AreChanges, IsKeptOf, IsRightBy}
+use Rattle.dep_manager.specs.Outcomes.{IsOutcomeBy, outcome_of}
+use Rattle.dep_manager.proofs.KeptLemmas.{outcome_by, watching_still}
+use Rattle.dep_manager.proofs.deps.Deps.follow.Goals as goal
+
+pub renewed-requires : goal.renewed-requires
+renewed-requires g c = ap are_endpoints c.as_slice.ensures ∙ c.requires
+
+pub returns-clause-outcome : goal.returns-clause-outcome
+returns-clause-outcome g c entries known is changes =
+    let r : Resources = resources c.args.self.now.target entries c.args.cache.now in
+    let listener : c.args.self.now.target.key.kind ≡ Kind.Listener = subst (λ d. d.target.key.kind ≡ Kind.Listener) c.self.view_is c.self.invariant in
+    let now : IsKeptOf entries c.args.cache.now c.args.self.now.target c.args.self.now.reached c.in_ok-kept.kept =
+    c.in_ok-kept.ensures.kept entries known c.args.self.now.target c.args.self.now.reached listener is (subst (AreChanges known c.args.cache.now) (sym c.as_slice.ensures) changes) in
+    let keys : c.in_ok-reached.reached ≡ c.args.self.now.reached = c.in_ok-reached.ensures ∙ c.as_slice-2.ensures ∙ ap (λ d. d.reached) c.self.view_is in
+    subst (IsOutcomeBy r c.args.last.references) (sym (c.in_ok-outcome.ensures.outcome ∙ ap (λ ks. outcome_of ks c.in_ok-kept.kept) keys))
+    (subst (λ names. IsOutcomeBy r names (outcome_of c.args.self.now.reached c.in_ok-kept.kept)) c.in_ok-kept.ensures.references (outcome_by r c.args.self.now.reached c.in_ok-kept.kept now.assembled now.lawful))
+
+pub returns-clause-watched : goal.returns-clause-watched
+returns-clause-watched g c entries known is changes =
+    let listener : c.args.self.now.target.key.kind ≡ Kind.Listener = subst (λ d. d.target.key.kind ≡ Kind.Listener) c.self.view_is c.self.invariant in
+    let now : IsKeptOf entries c.args.cache.now c.args.self.now.target c.args.self.now.reached c.in_ok-kept.kept =
+    c.in_ok-kept.ensures.kept entries known c.args.self.now.target c.args.self.now.reached listener is (subst (AreChanges known c.args.cache.now) (sym c.as_slice.ensures) changes) in
+    let keys : c.in_ok-reached.reached ≡ c.args.self.now.reached = c.in_ok-reached.ensures ∙ c.as_slice-2.ensures ∙ ap (λ d. d.reached) c.self.view_is in
+    subst (IsWatching c.args.cache.now c.args.cache.now) (sym (ap (λ o. o.reached) c.in_ok-outcome.ensures.outcome ∙ keys)) (watching_still c.args.cache.now c.args.self.now.reached now.watched)
+
+pub returns-clause-kept : goal.returns-clause-kept
+returns-clause-kept g c entries known is changes =
+    let listener : c.args.self.now.target.key.kind ≡ Kind.Listener = subst (λ d. d.target.key.kind ≡ Kind.Listener) c.self.view_is c.self.invariant in
+    let now : IsKeptOf entries c.args.cache.now c.args.self.now.target c.args.self.now.reached c.in_ok-kept.kept =
+    c.in_ok-kept.ensures.kept entries known c.args.self.now.target c.args.self.now.reached listener is (subst (AreChanges known c.args.cache.now) (sym c.as_slice.ensures) changes) in
+    let keys : c.in_ok-reached.reached ≡ c.args.self.now.reached = c.in_ok-reached.ensures ∙ c.as_slice-2.ensures ∙ ap (λ d. d.reached) c.self.view_is in
+    subst (IsRightBy entries c.args.cache.now) (sym c.in_ok-outcome.ensures.kept) (subst (λ ks. IsKeptOf entries c.args.cache.now c.args.self.now.target ks c.in_ok-kept.kept) (sym keys) now)
+
+pub returns-clause-held : goal.returns-clause-held
+returns-clause-held g c = (ap (λ d. d.target) c.in_ok-outcome.ensures.kept, ap (λ d. d.reached) c.in_ok-outcome.ensures.kept ∙ sym (ap (λ o. o.reached) c.in_ok-outcome.ensures.outcome))

@@ -1,6 +1,0 @@
-use Rattle.std.proofs.Common.{◌≡◌, drop, map}
-use Rattle.dep_manager.specs.Orders.{name_cmp, put_in}
-use Rattle.dep_manager.proofs.front.put_action.Given as goal
-
-abbrev pub invariant-loop-weighted : goal.invariant-loop-weighted
-invariant-loop-weighted l = put_in name_cmp l.names.keys (map (λ c. c.cluster) (drop l.weighted-index l.weighted-items)) ≡ put_in name_cmp l.fn.names.keys (map (λ c. c.cluster) l.weighted-items)

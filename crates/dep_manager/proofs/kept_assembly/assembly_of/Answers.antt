@@ -1,0 +1,30 @@
+use Rattle.std.proofs.Common.{◌≡◌, ◌++◌, map, false, sym, ap, ap₂, ◌∙◌, List, Option, Result, Err}
+use Rattle.std.specs.Prelude.{if◌then◌else◌, unwrap_or}
+use Rattle.xc_base.specs.declared.reason.Reason.{Reason}
+use Rattle.xc_keys.specs.Keys.{key_cmp}
+use Rattle.xds_config.specs.declared.config.Front.{Front}
+use Rattle.xds_config.specs.declared.config.ClusterEntry.{ClusterEntry}
+use Rattle.xds_config.specs.declared.config.Config.{Config}
+use Rattle.config_assembly.specs.Orders.{name_cmp, sorted}
+use Rattle.config_assembly.specs.ReachedResources.{Resources}
+use Rattle.config_assembly.specs.Front.{front, names_of}
+use Rattle.config_assembly.specs.Reach.{aggregates, is_wanted, keys_with, on_chains, reach, reached_clusters, roots}
+use Rattle.config_assembly.specs.WholeConfigs.{cluster_entry}
+use Rattle.config_assembly.specs.DepsViews.{seen}
+use Rattle.config_assembly.specs.Watching.{has_key}
+use Rattle.dep_manager.specs.KeptAssemblies.{sources_of}
+use Rattle.dep_manager.proofs.kept_assembly.assembly_of.Goals as goal
+
+pub returns-clause-assembled : goal.returns-clause-assembled
+returns-clause-assembled g c =
+    let r : Resources = seen c.args.sight in
+    let config_as : Option (Result Front Reason) → List ClusterEntry → Config = λ found clusters. record { front = unwrap_or found (Err Reason.Absent); clusters = clusters } in
+    let all : c.in_ok-roots.roots ≡ roots r c.args.references.now = c.in_ok-roots.ensures.names ∙ ap (λ found. sorted name_cmp (names_of found ++ c.args.references.now)) c.in_ok-front.ensures.front in
+    let clusters : c.in_ok-on_chains.on_chains ≡ reached_clusters r c.args.references.now = c.in_ok-on_chains.ensures ∙ ap (λ names. sorted name_cmp (on_chains (aggregates r) 16 names)) all in
+    record {
+      reached_are = c.in_ok-reached.ensures ∙ ap (λ names. sorted key_cmp (keys_with r names)) (c.as_slice.ensures ∙ clusters) ∙ ap (reach r) (sym c.in_ok-references.ensures);
+      awaited_are = λ key has. c.in_ok-awaited.ensures key ∙ ap (λ b. if b then is_wanted (r.fate key) else false) (ap (λ keys. has_key keys key) c.as_slice-2.ensures ∙ has);
+      config_is = c.in_ok-config.ensures.config ∙ ap₂ config_as c.in_ok-front.ensures.front (ap (map (cluster_entry r)) all) ∙ ap (λ names. config_as (front r) (map (cluster_entry r) (roots r names))) (sym c.in_ok-references.ensures);
+      sources_are = c.in_ok-sources.ensures ∙ ap (map (λ entry. sources_of r entry.state)) (c.as_slice-3.ensures ∙ ap (λ config. config.clusters) c.get.ensures);
+      front_waits = λ none. c.in_ok-front.ensures.awaited (c.in_ok-front.ensures.front ∙ none);
+    }

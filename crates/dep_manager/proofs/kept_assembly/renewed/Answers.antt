@@ -1,0 +1,12 @@
+use Rattle.std.proofs.Common.{refl, ap, ◌∙◌}
+use Rattle.dep_manager.specs.RenewedConfigs.{renewed_config}
+use Rattle.dep_manager.proofs.RenewLemmas.{renewed_by}
+use Rattle.dep_manager.proofs.kept_assembly.renewed.Goals as goal
+
+pub returns-clause-kept : goal.returns-clause-kept
+returns-clause-kept g c entries known target reached listener is changes =
+    renewed_by entries known c.args.cache.now target reached c.args.changed.now c.in_ok-news.news c.args.last listener c.requires is changes c.in_ok-news.ensures.news
+    (record { references = c.args.last.references; awaited = c.news_of.new.awaited; config = c.in_ok-config.config; sources = c.args.last.sources })
+    c.in_ok-news.ensures.lawful refl refl
+    (c.in_ok-config.ensures ∙ ap (renewed_config c.in_ok-news.news c.args.last.config) c.as_slice.ensures)
+    c.in_ok-news.ensures.awaited

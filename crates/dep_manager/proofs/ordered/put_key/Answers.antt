@@ -1,6 +1,0 @@
-use Rattle.std.proofs.Common.{◌∙◌}
-use Rattle.dep_manager.proofs.OrderLemmas.{put_alike}
-use Rattle.dep_manager.proofs.ordered.put_key.Goals as goal
-
-pub returns : goal.returns
-returns c = c.in_ok-insert.ensures.keys ∙ put_alike c.args.keys.now.keys c.args.key

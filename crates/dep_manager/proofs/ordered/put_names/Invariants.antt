@@ -1,6 +1,0 @@
-use Rattle.std.proofs.Common.{◌≡◌, drop}
-use Rattle.dep_manager.specs.Orders.{name_cmp, put_in}
-use Rattle.dep_manager.proofs.ordered.put_names.Given as goal
-
-abbrev pub invariant-loop-name : goal.invariant-loop-name
-invariant-loop-name l = put_in name_cmp l.names.keys (drop l.name-index l.more) ≡ put_in name_cmp l.fn.names.keys l.more

@@ -1,7 +1,0 @@
-use Rattle.std.proofs.Common.{◌≡◌, take}
-use Rattle.xc_base.specs.declared.names.Key.{Key}
-use Rattle.dep_manager.specs.Watching.{has_key}
-use Rattle.dep_manager.proofs.watching.set_of.Given as goal
-
-abbrev pub invariant-loop-key : goal.invariant-loop-key
-invariant-loop-key l = (key : Key) → has_key l.set.keys key ≡ has_key (take l.key-index l.keys) key

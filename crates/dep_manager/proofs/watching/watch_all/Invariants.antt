@@ -1,9 +1,0 @@
-use Rattle.std.proofs.Common.{◌≡◌, take}
-use Rattle.std.specs.Prelude.{if◌then◌else◌}
-use Rattle.xc_base.specs.declared.names.Key.{Key}
-use Rattle.xds_cache.specs.Fates.{known_of, watched}
-use Rattle.dep_manager.specs.Watching.{has_key}
-use Rattle.dep_manager.proofs.watching.watch_all.Given as goal
-
-abbrev pub invariant-loop-key : goal.invariant-loop-key
-invariant-loop-key l = (key : Key) → known_of l.cache key ≡ (if has_key (take l.key-index l.keys) key then watched (known_of l.fn.cache key) else known_of l.fn.cache key)

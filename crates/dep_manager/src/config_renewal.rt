@@ -1,0 +1,164 @@
+//! A configuration once endpoints changed: what they don't touch is the same shared value as before.
+ghost use Rattle.std.specs.Prelude.{◌≡◌, IfOk};
+ghost use Rattle.std.specs.List.{list_any};
+ghost use Rattle.dep_manager.specs.EndpointNews.{is_told};
+ghost use Rattle.dep_manager.specs.RenewedConfigs.{renewed_config, renewed_entries, renewed_entry, renewed_leaf, renewed_leaves, renewed_state};
+
+use crate::endpoint_news::News;
+use std::alloc::Global;
+use xc_base::{Key, List, Memory, Reason, Shared};
+use xds_config::{ClusterEntry, Config, EndpointValue, Front, Leaf, Leaves};
+
+/// The same endpoints, which are shared, or the same reason.
+fn copy_state(
+    state: &Result<Shared<EndpointValue>, Reason>,
+) -> Result<Result<Shared<EndpointValue>, Reason>, Memory>
+    ensures { IfOk result (λ copy. copy ≡ state.now) }
+{
+    match state {
+        Ok(endpoints) => Ok(Ok(endpoints.share()?)),
+        Err(reason) => Ok(Err(*reason)),
+    }
+}
+
+/// The same front, or the same reason.
+fn copy_front(front: &Result<Front, Reason>) -> Result<Result<Front, Reason>, Memory>
+    ensures { IfOk result (λ copy. copy ≡ front.now) }
+{
+    match front {
+        Ok(front) => Ok(Ok(front.clone()?)),
+        Err(reason) => Ok(Err(*reason)),
+    }
+}
+
+/// A leaf with other endpoints.
+fn leaf_with(leaf: &Leaf, state: &Result<Shared<EndpointValue>, Reason>) -> Result<Leaf, Memory>
+    ensures { IfOk result (λ new. new ≡ record { name = leaf.now.name; state = state.now }) }
+{
+    let name = leaf.name.clone()?;
+    let state = copy_state(state)?;
+    Ok(Leaf { name, state })
+}
+
+/// A leaf that has its endpoints from this key, once some changed.
+fn renewed_leaf(news: &News, leaf: &Leaf, source: &Option<Key>) -> Result<Leaf, Memory>
+    ensures { IfOk result (λ new. new ≡ renewed_leaf news.now leaf.now source.now) }
+{
+    let Some(key) = source else {
+        return leaf.clone();
+    };
+    match news.get(key) {
+        Some(state) => leaf_with(leaf, state),
+        None => leaf.clone(),
+    }
+}
+
+/// Leaves that have their endpoints from these keys, once some changed.
+fn renewed_leaves(
+    alloc: Global,
+    news: &News,
+    leaves: &[Leaf],
+    sources: &[Option<Key>],
+) -> Result<List<Leaf>, Memory>
+    ensures { IfOk result (λ list. list ≡ renewed_leaves news.now leaves.now sources.now) }
+{
+    let mut list = List::new(alloc);
+    let mut left = sources;
+    for leaf in leaves {
+        let Some((source, rest)) = left.split_first() else {
+            return Ok(list);
+        };
+        list.push(renewed_leaf(news, leaf, source)?)?;
+        left = rest;
+    }
+    Ok(list)
+}
+
+/// The leaves of a cluster, which have their endpoints from these keys, once some changed.
+fn renewed_state(
+    alloc: Global,
+    news: &News,
+    state: &Result<Shared<Leaves>, Reason>,
+    sources: &[Option<Key>],
+) -> Result<Result<Shared<Leaves>, Reason>, Memory>
+    ensures { IfOk result (λ new. new ≡ renewed_state news.now state.now sources.now) }
+{
+    match state {
+        Ok(leaves) => {
+            let aggregate = leaves.get().aggregate;
+            let leaves = renewed_leaves(alloc, news, leaves.get().leaves.as_slice(), sources)?;
+            Ok(Ok(Shared::new(alloc, Leaves { aggregate, leaves })?))
+        }
+        Err(reason) => Ok(Err(*reason)),
+    }
+}
+
+/// Whether any of these leaves has its endpoints from a key that changed.
+fn any_told(news: &News, sources: &[Option<Key>]) -> bool
+    ensures { result ≡ list_any (is_told news.now) sources.now }
+{
+    sources.iter().any(|source| news.tells(source))
+}
+
+/// Whether any leaf of these clusters has its endpoints from a key that changed.
+fn any_of_all(news: &News, sources: &[List<Option<Key>>]) -> bool
+    ensures { result ≡ list_any (list_any (is_told news.now)) sources.now }
+{
+    sources.iter().any(|keys| any_told(news, keys.as_slice()))
+}
+
+/// The entry of a cluster whose leaves have their endpoints from these keys, once some changed.
+fn renewed_entry(
+    alloc: Global,
+    news: &News,
+    entry: &Shared<ClusterEntry>,
+    sources: &[Option<Key>],
+) -> Result<Shared<ClusterEntry>, Memory>
+    ensures { IfOk result (λ new. new ≡ renewed_entry news.now entry.now sources.now) }
+{
+    if !any_told(news, sources) {
+        return entry.share();
+    }
+    let name = entry.get().name.clone()?;
+    let state = renewed_state(alloc, news, &entry.get().state, sources)?;
+    Ok(Shared::new(alloc, ClusterEntry { name, state })?)
+}
+
+/// The entries of clusters whose leaves have their endpoints from these keys, once some changed.
+fn renewed_entries(
+    alloc: Global,
+    news: &News,
+    entries: &[Shared<ClusterEntry>],
+    sources: &[List<Option<Key>>],
+) -> Result<List<Shared<ClusterEntry>>, Memory>
+    ensures { IfOk result (λ list. list ≡ renewed_entries news.now entries.now sources.now) }
+{
+    let mut list = List::new(alloc);
+    let mut left = sources;
+    for entry in entries {
+        let Some((keys, rest)) = left.split_first() else {
+            return Ok(list);
+        };
+        list.push(renewed_entry(alloc, news, entry, keys.as_slice())?)?;
+        left = rest;
+    }
+    Ok(list)
+}
+
+/// A configuration whose leaves have their endpoints from these keys, once some changed. Where none of its leaves has one that
+/// changed, it is the same, and so is each entry.
+pub fn renewed_config(
+    alloc: Global,
+    news: &News,
+    config: Shared<Config>,
+    sources: &[List<Option<Key>>],
+) -> Result<Shared<Config>, Memory>
+    ensures { IfOk result (λ new. new ≡ renewed_config news.now config sources.now) }
+{
+    if !any_of_all(news, sources) {
+        return Ok(config);
+    }
+    let front = copy_front(&config.get().front)?;
+    let clusters = renewed_entries(alloc, news, config.get().clusters.as_slice(), sources)?;
+    Ok(Shared::new(alloc, Config { front, clusters })?)
+}

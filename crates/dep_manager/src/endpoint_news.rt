@@ -1,0 +1,164 @@
+//! What is told of keys that changed.
+ghost use Rattle.std.specs.Prelude.{◌≡◌, ◌≤◌, ◌+◌, [], None, Some, IfOk, OnOk, false, length, option_map, if◌then◌else◌};
+ghost use Rattle.xc_base.specs.declared.names.Key.{Key as KeyValue};
+ghost use Rattle.xc_keys.specs.Keys.{is_key};
+ghost use Rattle.xds_config.specs.Endpoints.{IsLawfulEndpoints};
+ghost use Rattle.xds_cache.specs.KeptFates.{fate_of, shown};
+ghost use Rattle.config_assembly.specs.Reach.{is_wanted};
+ghost use Rattle.config_assembly.specs.Watching.{has_key};
+ghost use Rattle.config_assembly.specs.WholeConfigs.{endpoints_of};
+ghost use Rattle.dep_manager.specs.EndpointNews.{AreLawfulNews, are_endpoints, is_told, state_in};
+
+use std::alloc::Global;
+use std::collections::{BTreeMap, BTreeSet};
+use std::marker::Model;
+use std::sync::ledger::Ledger;
+use xc_base::{Key, Kind, Memory, Reason, Shared, Steps};
+use xds_cache::{Cache, Fate};
+use xds_config::{EndpointValue, Value};
+
+/// The endpoints of each key that changed, or why there are none, by its key.
+#[derive(Drop)]
+pub struct News {
+    states: BTreeMap<Key, Result<Shared<EndpointValue>, Reason>>,
+}
+
+impl Model for News {
+    ghost use Rattle.dep_manager.specs.EndpointNews.{Told};
+
+    ghost Value = { Told };
+
+    ghost view = { λ n. n.states.entries };
+}
+
+impl News {
+    /// Nothing is told yet.
+    fn new(alloc: Global) -> News
+        ensures { result ≡ [] }
+    {
+        News {
+            states: BTreeMap::new(alloc),
+        }
+    }
+
+    /// Tells the endpoints of a key.
+    fn put(&mut self, key: &Key, state: Result<Shared<EndpointValue>, Reason>) -> Result<(), Memory>
+        requires { IfOk state IsLawfulEndpoints }
+        ensures state { OnOk result ((other : KeyValue) → state_in self.new other ≡ (if is_key key.now other then Some state else state_in self.old other)) }
+        ensures lawful { OnOk result (AreLawfulNews self.old → AreLawfulNews self.new) }
+    {
+        let before = self.states.insert(key.clone()?, state)?;
+        drop(before);
+        Ok(())
+    }
+
+    /// What is told of a key.
+    pub fn get(&self, key: &Key) -> Option<&Result<Shared<EndpointValue>, Reason>>
+        ensures { option_map (λ s. s.now) result ≡ state_in self.now key.now }
+    {
+        self.states.get(key)
+    }
+
+    /// Whether a leaf with this key has its endpoints from a key that changed.
+    pub fn tells(&self, source: &Option<Key>) -> bool
+        ensures { result ≡ is_told self.now source.now }
+    {
+        match source {
+            Some(key) => self.get(key).is_some(),
+            None => false,
+        }
+    }
+}
+
+/// The endpoints that are known, or why there are none.
+fn endpoints_of(fate: Fate<'_>) -> Result<Result<Shared<EndpointValue>, Reason>, Memory>
+    ensures { IfOk result (λ state. state ≡ endpoints_of (shown fate.entry)) }
+{
+    match fate {
+        Fate::Value(Value::Endpoint(endpoints)) => Ok(Ok(endpoints.share()?)),
+        Fate::Invalid(reason) => Ok(Err(*reason)),
+        _ => Ok(Err(Reason::Absent)),
+    }
+}
+
+/// Whether nothing is known yet.
+fn is_wanted(fate: Fate<'_>) -> bool
+    ensures { result ≡ is_wanted (shown fate.entry) }
+{
+    matches!(fate, Fate::Wanted)
+}
+
+/// Whether all these are keys of Endpoint resources.
+pub fn are_endpoints(keys: &[Key]) -> bool
+    ensures { result ≡ are_endpoints keys.now }
+{
+    keys.iter().all(|key| matches!(key.kind, Kind::Endpoint))
+}
+
+/// Puts a key among those that are awaited, or takes it from them.
+fn set_awaited(awaited: &mut BTreeSet<Key>, key: &Key, waits: bool) -> Result<(), Memory>
+    ensures { OnOk result ((other : KeyValue) → has_key awaited.new.keys other ≡ (if is_key key.now other then waits else has_key awaited.old.keys other)) }
+{
+    if waits {
+        awaited.insert(key.clone()?)?;
+        return Ok(());
+    }
+    awaited.remove(key);
+    Ok(())
+}
+
+/// Those of these keys that are awaited.
+pub fn awaited_of<L: Ledger>(
+    alloc: Global,
+    cache: &Cache,
+    keys: &[Key],
+    steps: &mut Steps<L>,
+) -> Result<BTreeSet<Key>, Memory>
+    ensures { IfOk result (λ awaited. (key : KeyValue) → has_key awaited.keys key ≡ (if has_key keys.now key then is_wanted (fate_of cache.now key) else false)) }
+{
+    let mut awaited = BTreeSet::new(alloc);
+    for key in keys {
+        set_awaited(&mut awaited, key, is_wanted(cache.get(key, steps)))?;
+    }
+    Ok(awaited)
+}
+
+/// Looks at a key that changed.
+fn look<L: Ledger>(
+    news: &mut News,
+    awaited: &mut BTreeSet<Key>,
+    cache: &Cache,
+    key: &Key,
+    steps: &mut Steps<L>,
+) -> Result<(), Memory>
+    ensures news { OnOk result ((other : KeyValue) → state_in news.new other ≡ (if is_key key.now other then Some (endpoints_of (fate_of cache.now key.now)) else state_in news.old other)) }
+    ensures awaited { OnOk result ((other : KeyValue) → has_key awaited.new.keys other ≡ (if is_key key.now other then is_wanted (fate_of cache.now key.now) else has_key awaited.old.keys other)) }
+    ensures lawful { OnOk result (AreLawfulNews news.old → AreLawfulNews news.new) }
+    ensures one_step { steps.new ≡ steps.old + 1 }
+{
+    let fate = cache.get(key, steps);
+    set_awaited(awaited, key, is_wanted(fate))?;
+    let state = endpoints_of(fate)?;
+    news.put(key, state)
+}
+
+/// What is told of these keys, of which those that are awaited are put among the others that are. Each counts one step.
+pub fn news_of<L: Ledger>(
+    alloc: Global,
+    cache: &Cache,
+    changed: &[Key],
+    awaited: &mut BTreeSet<Key>,
+    steps: &mut Steps<L>,
+) -> Result<News, Memory>
+    ensures news { IfOk result (λ news. (key : KeyValue) → state_in news key ≡ (if has_key changed.now key then Some (endpoints_of (fate_of cache.now key)) else None)) }
+    ensures awaited { OnOk result ((key : KeyValue) → has_key awaited.new.keys key ≡ (if has_key changed.now key then is_wanted (fate_of cache.now key) else has_key awaited.old.keys key)) }
+    ensures lawful { IfOk result AreLawfulNews }
+    ensures cost { steps.new ≤ steps.old + length changed.now }
+    ensures rises { steps.old ≤ steps.new }
+{
+    let mut news = News::new(alloc);
+    for key in changed {
+        look(&mut news, awaited, cache, key, steps)?;
+    }
+    Ok(news)
+}

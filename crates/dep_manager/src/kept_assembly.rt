@@ -1,0 +1,220 @@
+//! What is kept from one update to the next.
+ghost use Rattle.std.specs.Prelude.{◌≡◌, ◌≤◌, ◌+◌, List, [], length, map, true, Some, Err, IfOk, IfSome, unwrap_or};
+ghost use Rattle.std.specs.List.{find};
+ghost use Rattle.std.specs.List.Sorted.{IsStrictlySortedBy};
+ghost use Rattle.xc_base.specs.declared.names.Kind.TheVariants.{Listener as ListenerKind};
+ghost use Rattle.xc_base.specs.declared.names.Key.{Key as KeyValue};
+ghost use Rattle.xc_base.specs.declared.reason.Reason.TheVariants.{Absent as AbsentReason};
+ghost use Rattle.xds_config.specs.Configs.{IsLawfulConfig, IsLawfulFront};
+ghost use Rattle.xds_bootstrap.specs.declared.bootstrap.AuthorityEntry.{AuthorityEntry as AuthorityValue};
+ghost use Rattle.xds_name.specs.declared.target.Target.{Target as TargetValue};
+ghost use Rattle.aggregate_expand.specs.Chains.{longest_chain};
+ghost use Rattle.xds_cache.specs.KeptFates.{Watched};
+ghost use Rattle.config_assembly.specs.Orders.{name_cmp, sorted};
+ghost use Rattle.config_assembly.specs.Reach.{aggregates, on_chains as chains_from};
+ghost use Rattle.config_assembly.specs.WholeConfigs.{cluster_entry};
+ghost use Rattle.config_assembly.specs.Watching.{has_key};
+ghost use Rattle.config_assembly.specs.DepsViews.{seen, seen_key};
+ghost use Rattle.dep_manager.specs.EndpointNews.{are_endpoints};
+ghost use Rattle.dep_manager.specs.KeptAssemblies.{AreChanges, IsAssembledOf, IsKeptOf, config_if, least_of};
+ghost use Rattle.dep_manager.specs.declared.kept_assembly.Kept.{Kept as KeptValue};
+
+use crate::config_renewal::renewed_config;
+use crate::endpoint_news::{are_endpoints, awaited_of, news_of};
+use crate::leaf_sources::sources_of_all;
+use config_assembly::assemble::config;
+use config_assembly::front::front;
+use config_assembly::reach::{on_chains, reached_keys, roots};
+use config_assembly::{Sight, Table};
+use std::alloc::Global;
+use std::collections::BTreeSet;
+use std::sync::ledger::Ledger;
+use xc_base::{Key, List, Memory, Reason, Same, Shared, Steps, Text};
+use xds_cache::Cache;
+use xds_config::{Config, Front};
+
+/// What an update made.
+#[derive(Drop)]
+pub struct Kept {
+    /// The clusters to which calls referred.
+    pub references: List<Text>,
+    /// Has of the reached keys those that are awaited.
+    pub awaited: BTreeSet<Key>,
+    /// The configuration as far as it is known: what is awaited is absent from it.
+    pub config: Shared<Config>,
+    /// For each of its clusters, the Endpoint key of each leaf, where the leaf's cluster is known.
+    pub sources: List<List<Option<Key>>>,
+}
+
+/// What an update reached, and what it made.
+#[derive(Drop)]
+pub struct Assembly {
+    /// The keys that are reached, in the order of keys, each once.
+    pub reached: List<Key>,
+    /// What is kept of it.
+    pub kept: Kept,
+}
+
+/// The names of clusters that a configuration is made of, each list in the order of their bytes.
+#[derive(Drop)]
+struct ClusterNames {
+    /// The clusters that the front's host names or that calls refer to.
+    roots: List<Text>,
+    /// The clusters on chains that begin with a root.
+    on_chains: List<Text>,
+}
+
+// ---- from nothing
+
+/// The same names, which share their texts.
+fn copy_names(alloc: Global, names: &[Text]) -> Result<List<Text>, Memory>
+    ensures { IfOk result (λ copy. copy ≡ names.now) }
+{
+    let mut copy = List::new(alloc);
+    for name in names {
+        copy.push(name.clone()?)?;
+    }
+    Ok(copy)
+}
+
+/// The front that was found, or that it is absent.
+fn front_or_absent(found: Option<Result<Front, Reason>>) -> Result<Front, Reason>
+    ensures { result ≡ unwrap_or found (Err AbsentReason) }
+{
+    match found {
+        Some(front) => front,
+        None => Err(Reason::Absent),
+    }
+}
+
+/// The configuration with this front and the clusters of these names.
+fn config_with<L: Ledger>(
+    sight: Sight<'_>,
+    found: Option<Result<Front, Reason>>,
+    names: &ClusterNames,
+    steps: &mut Steps<L>,
+) -> Result<Shared<Config>, Memory>
+    requires front { IfSome found (λ front. IfOk front IsLawfulFront) }
+    requires rising { IsStrictlySortedBy name_cmp names.now.roots }
+    requires clusters { names.now.on_chains ≡ sorted name_cmp (chains_from (aggregates (seen sight)) longest_chain names.now.roots) }
+    ensures config { IfOk result (λ config. config ≡ record { front = unwrap_or found (Err AbsentReason); clusters = map (cluster_entry (seen sight.entry)) names.now.roots }) }
+    ensures lawful { IfOk result IsLawfulConfig }
+{
+    let front = front_or_absent(found);
+    let table = Table::of(sight, names.on_chains.as_slice(), steps)?;
+    config(sight, front, names.roots.as_slice(), &table, steps)
+}
+
+/// What is reached, awaited and configured by what the cache of this sight knows.
+pub fn assembly_of<L: Ledger>(
+    sight: Sight<'_>,
+    references: &[Text],
+    steps: &mut Steps<L>,
+) -> Result<Assembly, Memory>
+    requires { (seen sight).target.key.kind ≡ ListenerKind }
+    ensures assembled { IfOk result (λ made. IsAssembledOf (seen sight.entry) made.reached made.kept) }
+    ensures references { IfOk result (λ made. made.kept.references ≡ references.now) }
+    ensures lawful { IfOk result (λ made. IsLawfulConfig made.kept.config) }
+{
+    let front = front(sight, steps)?;
+    let roots = roots(sight, &front, references)?;
+    let on_chains = on_chains(sight, &roots, steps)?;
+    let reached = reached_keys(sight, on_chains.as_slice(), steps)?;
+    let awaited = awaited_of(sight.alloc, sight.cache, reached.as_slice(), steps)?;
+    let names = ClusterNames { roots, on_chains };
+    let config = config_with(sight, front, &names, steps)?;
+    let sources = sources_of_all(sight, config.get().clusters.as_slice(), steps)?;
+    let references = copy_names(sight.alloc, references)?;
+    let kept = Kept {
+        references,
+        awaited,
+        config,
+        sources,
+    };
+    Ok(Assembly { reached, kept })
+}
+
+// ---- from what was kept
+
+/// What was kept, where these keys that changed are keys of Endpoint resources and calls refer to the same clusters.
+pub fn following(last: Option<Kept>, changed: &[Key], references: &List<Text>) -> Option<Kept>
+    ensures kept { IfSome result (λ kept. last ≡ Some kept) }
+    ensures references { IfSome result (λ kept. references.now ≡ kept.references) }
+    ensures endpoints { IfSome result (λ kept. are_endpoints changed.now ≡ true) }
+    ensures some { (kept : KeptValue) → last ≡ Some kept → references.now ≡ kept.references → are_endpoints changed.now ≡ true → result ≡ Some kept }
+{
+    let Some(kept) = last else {
+        return None;
+    };
+    if are_endpoints(changed) && references.same(&kept.references) {
+        Some(kept)
+    } else {
+        None
+    }
+}
+
+/// What was kept, brought up to date where none but these Endpoint keys changed. Each counts one step.
+pub fn renewed<L: Ledger>(
+    alloc: Global,
+    last: Kept,
+    changed: &[Key],
+    cache: &Cache,
+    steps: &mut Steps<L>,
+) -> Result<Kept, Memory>
+    requires { are_endpoints changed.now ≡ true }
+    ensures kept { IfOk result (λ kept. (entries : List AuthorityValue) (known : Watched) (target : TargetValue) (reached : List KeyValue) → target.key.kind ≡ ListenerKind → IsKeptOf entries known target reached last → AreChanges known cache.now changed.now → IsKeptOf entries cache.now target reached kept) }
+    ensures references { IfOk result (λ kept. kept.references ≡ last.references) }
+    ensures cost { steps.new ≤ steps.old + length changed.now }
+    ensures rises { steps.old ≤ steps.new }
+{
+    let Kept {
+        references,
+        mut awaited,
+        config,
+        sources,
+    } = last;
+    let news = news_of(alloc, cache, changed, &mut awaited, steps)?;
+    let config = renewed_config(alloc, &news, config, sources.as_slice())?;
+    Ok(Kept {
+        references,
+        awaited,
+        config,
+        sources,
+    })
+}
+
+// ---- what it comes to
+
+/// The first of these keys that is among those that are awaited.
+fn first_of<'a>(awaited: &BTreeSet<Key>, keys: &'a [Key]) -> Option<&'a Key>
+    ensures { seen_key result ≡ find (has_key awaited.now.keys) keys.now }
+{
+    for key in keys {
+        if awaited.contains(key) {
+            return Some(key);
+        }
+    }
+    None
+}
+
+impl Kept {
+    /// The least of these keys that is awaited.
+    pub fn least(&self, keys: &[Key]) -> Result<Option<Key>, Memory>
+        ensures { IfOk result (λ least. least ≡ least_of self.now.awaited.keys keys.now) }
+    {
+        match first_of(&self.awaited, keys) {
+            Some(key) => Ok(Some(key.clone()?)),
+            None => Ok(None),
+        }
+    }
+
+    /// The configuration, where no key is awaited.
+    pub fn config_if(&self, missing: &Option<Key>) -> Result<Option<Shared<Config>>, Memory>
+        ensures { IfOk result (λ config. config ≡ config_if missing.now self.now.config) }
+    {
+        match missing {
+            Some(_) => Ok(None),
+            None => Ok(Some(self.config.share()?)),
+        }
+    }
+}

@@ -1,4 +1,0 @@
-use Rattle.deps_bench.proofs.play.play.Given as goal
-
-abbrev pub ghosts-played : goal.ghosts-played
-ghosts-played a = record { name = a.blank.name; parts = a.blank.parts }

@@ -1,0 +1,4 @@
+pub mod KeySets
+pub mod AnswerSteps
+pub mod SettleSteps
+pub mod ReportSteps

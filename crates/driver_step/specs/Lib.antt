@@ -1,0 +1,2 @@
+pub mod DriverSteps
+pub mod SettledKeys

@@ -1,0 +1,10 @@
+mod PlainTexts
+mod TakenLines
+mod HeadRows
+mod LineRows
+mod StandingLines
+mod TakenCalls
+mod TakenRounds
+mod TakenSetup
+mod TextSizes
+mod GeneratedProofs

@@ -1,0 +1,2 @@
+pub mod GeneratedSession
+pub mod GeneratedLaw

@@ -1,5 +1,0 @@
-use Rattle.grpc_framing.proofs.RunLemmas.{any_pieces}
-use Rattle.grpc_framing.proofs.laws.any_pieces.Goals as goal
-
-pub returns : goal.returns
-returns c = any_pieces

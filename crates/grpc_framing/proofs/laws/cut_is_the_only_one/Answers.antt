@@ -1,5 +1,0 @@
-use Rattle.grpc_framing.proofs.OnlyLemmas.{cut_is_the_only_one}
-use Rattle.grpc_framing.proofs.laws.cut_is_the_only_one.Goals as goal
-
-pub returns : goal.returns
-returns c = cut_is_the_only_one

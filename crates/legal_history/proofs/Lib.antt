@@ -1,0 +1,3 @@
+pub mod LegalProofs
+pub mod Rows
+pub mod NotLegal

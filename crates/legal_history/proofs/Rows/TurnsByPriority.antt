@@ -1,0 +1,306 @@
+-- Turns by priority: written by tools/history_rows.py from examples/turns_by_priority.session.
+-- It is to catch: a turn that counts picks of another priority.
+use Rattle.std.proofs.Common.{◌≡◌, ◌≤◌, inr, refl, ℕ, zero, suc, List, [], ◌∷◌, true, false, Some, None, Ok, codes, arith}
+use Rattle.std.proofs.lemmas.List.Elements.{All-from_recursion}
+use Rattle.xc_base.specs.declared.names.Kind.{Kind}
+use Rattle.xc_base.specs.declared.names.Key.{Key}
+use Rattle.xc_base.specs.declared.names.State.{State}
+use Rattle.xds_config.specs.declared.value.Value.{Value}
+use Rattle.xds_config.specs.declared.listener_values.RoutesFrom.{RoutesFrom}
+use Rattle.xds_config.specs.declared.route_values.RouteValue.{RouteValue}
+use Rattle.xds_config.specs.declared.route_values.PathTest.{PathTest}
+use Rattle.xds_config.specs.declared.route_values.Action.{Action}
+use Rattle.xds_config.specs.declared.cluster_values.Shape.{Shape}
+use Rattle.xds_config.specs.declared.endpoint_values.EndpointValue.{EndpointValue}
+use Rattle.route_match.specs.declared.answer.RouteAnswer.{RouteAnswer}
+use Rattle.aggregate_expand.specs.Leaves.{goes_on, ends, leaves_within}
+use Rattle.weighted_lb.specs.declared.picker.PickBody.{PickBody}
+use Rattle.cluster_tree.specs.declared.snapshot.Snapshot.{Snapshot}
+use Rattle.ads_stream.specs.declared.verdict.Verdict.{Verdict}
+use Rattle.call_journal.specs.declared.event.BytesHow.{BytesHow}
+use Rattle.call_journal.specs.declared.event.DriverEvent.{DriverEvent}
+use Rattle.call_journal.specs.declared.event.CallerEvent.{CallerEvent}
+use Rattle.call_journal.specs.declared.reply.CallerReply.{CallerReply}
+use Rattle.call_journal.specs.declared.entry.Entry.{Entry}
+use Rattle.grpc_framing.specs.Cut.{cut, cut_within, first_frame}
+use Rattle.grpc_framing.specs.Framing.{fault_at}
+use Rattle.session_lines.specs.declared.session.DriverLine.{DriverLine}
+use Rattle.session_lines.specs.declared.session.Act.{Act}
+use Rattle.session_lines.specs.declared.session.Work.{Work}
+use Rattle.session_lines.specs.declared.session.Line.{Line}
+use Rattle.session_script.specs.Plan.{driver_list, lines_by, entries_by, ArePlayed, all, next, AreListed}
+use Rattle.config_assembly.specs.Orders.{Name}
+use Rattle.xds_history.specs.Setting.{Setting}
+use Rattle.xds_history.specs.Right.{shown}
+use Rattle.legal_history.specs.Legal.{AreOpen, AreStarted, EndsInSweep, is_read}
+use Rattle.legal_history.proofs.Rows.{a_node, response, setting_with, key_from, driven, called, on_line, replayed, as_made, snapshots, Step, steps, AreNumbered, are_apart, at_most}
+
+abbrev text0 : Name
+text0 = codes "svc"
+
+abbrev text1 : Name
+text1 = codes "web"
+
+abbrev text2 : Name
+text2 = codes "1"
+
+abbrev text3 : Name
+text3 = codes "n1"
+
+abbrev text4 : Name
+text4 = codes "h"
+
+abbrev text5 : Name
+text5 = codes "*"
+
+abbrev text6 : Name
+text6 = codes "/"
+
+abbrev text7 : Name
+text7 = codes "r"
+
+abbrev routes8 : RouteValue
+routes8 = (record { name = text7; hosts = ((record { name = text4; domains = (text5 ∷ []); routes = ((record { place = 0; path = (PathTest.Prefix text6 true); headers = ([]); fraction = None; action = (Action.To ((record { cluster = text1; weight = 1 }) ∷ [])) }) ∷ []) }) ∷ []) })
+
+abbrev text9 : Name
+text9 = codes "n2"
+
+abbrev text10 : Name
+text10 = codes "n3"
+
+abbrev text11 : Name
+text11 = codes "z"
+
+abbrev text12 : Name
+text12 = codes "10.0.0.1:80"
+
+abbrev text13 : Name
+text13 = codes "10.0.0.2:80"
+
+abbrev text14 : Name
+text14 = codes "10.0.0.3:80"
+
+abbrev text15 : Name
+text15 = codes "10.0.0.4:80"
+
+abbrev endpoints16 : EndpointValue
+endpoints16 = (record { name = text1; localities = ((record { id = (record { region = []; zone = text11; sub_zone = [] }); priority = 0; weight = 1; addresses = (text12 ∷ text13 ∷ []) }) ∷ (record { id = (record { region = []; zone = text11; sub_zone = [] }); priority = 1; weight = 1; addresses = (text14 ∷ text15 ∷ []) }) ∷ []); drops = ([]) })
+
+abbrev text17 : Name
+text17 = codes "/p.S/M"
+
+abbrev key : Kind → Name → Key
+key = key_from ([])
+
+abbrev set : Setting
+set = setting_with key 1 text0 text0
+    (response 0 text2 text3 (0 ∷ []) ∷ response 2 text2 text9 (1 ∷ []) ∷ response 3 text2 text10 (2 ∷ []) ∷ [])
+    ((Ok (record { name = text0; value = (Value.Listener (record { name = text0; routes = (RoutesFrom.Inline routes8) })) })) ∷ (Ok (record { name = text1; value = (Value.Cluster (record { name = text1; shape = (Shape.Eds []) })) })) ∷ (Ok (record { name = text1; value = (Value.Endpoint endpoints16) })) ∷ [])
+
+abbrev entry1 : Entry
+entry1 = on_line 0 5 (driven (DriverEvent.Opened (record { 0 = 0 })) Verdict.Done (Some (key Kind.Listener text0)) ((record { authority = (record { 0 = 0 }); request = (record { kind = Kind.Listener; version = []; nonce = []; names = (text0 ∷ []); node = (Some a_node); error = None }) }) ∷ []) None ([]))
+
+abbrev entry2 : Entry
+entry2 = on_line 0 6 (driven (DriverEvent.Response (record { 0 = 0 }) (0 ∷ [])) (Verdict.Ack Kind.Listener) (Some (key Kind.Cluster text1)) ((record { authority = (record { 0 = 0 }); request = (record { kind = Kind.Listener; version = text2; nonce = text3; names = (text0 ∷ []); node = None; error = None }) }) ∷ (record { authority = (record { 0 = 0 }); request = (record { kind = Kind.Cluster; version = []; nonce = []; names = (text1 ∷ []); node = None; error = None }) }) ∷ []) None ([]))
+
+abbrev entry3 : Entry
+entry3 = on_line 0 6 (driven (DriverEvent.Bytes (record { 0 = 0 }) BytesHow.Whole) Verdict.Done (Some (key Kind.Cluster text1)) ([]) None ([]))
+
+abbrev entry4 : Entry
+entry4 = on_line 0 7 (driven (DriverEvent.Response (record { 0 = 0 }) (1 ∷ [])) (Verdict.Ack Kind.Cluster) (Some (key Kind.Endpoint text1)) ((record { authority = (record { 0 = 0 }); request = (record { kind = Kind.Cluster; version = text2; nonce = text9; names = (text1 ∷ []); node = None; error = None }) }) ∷ (record { authority = (record { 0 = 0 }); request = (record { kind = Kind.Endpoint; version = []; nonce = []; names = (text1 ∷ []); node = None; error = None }) }) ∷ []) None ([]))
+
+abbrev entry5 : Entry
+entry5 = on_line 0 7 (driven (DriverEvent.Bytes (record { 0 = 0 }) BytesHow.Whole) Verdict.Done (Some (key Kind.Endpoint text1)) ([]) None ([]))
+
+abbrev entry6 : Entry
+entry6 = on_line 0 8 (driven (DriverEvent.Response (record { 0 = 0 }) (2 ∷ [])) (Verdict.Ack Kind.Endpoint) None ((record { authority = (record { 0 = 0 }); request = (record { kind = Kind.Endpoint; version = text2; nonce = text10; names = (text1 ∷ []); node = None; error = None }) }) ∷ []) (Some 1) ([]))
+
+abbrev entry7 : Entry
+entry7 = on_line 0 8 (driven (DriverEvent.Bytes (record { 0 = 0 }) BytesHow.Whole) Verdict.Done None ([]) None ([]))
+
+abbrev entry8 : Entry
+entry8 = on_line 0 9 (driven (DriverEvent.Endpoint text12 State.Ready) Verdict.Done None ([]) (Some 2) ([]))
+
+abbrev entry9 : Entry
+entry9 = on_line 0 10 (driven (DriverEvent.Endpoint text13 State.Ready) Verdict.Done None ([]) (Some 3) ([]))
+
+abbrev entry10 : Entry
+entry10 = on_line 1 11 (called (CallerEvent.Pin (record { id = (record { 0 = 0 }); path = text17; headers = ([]); word = 0 })) (CallerReply.Pinned 3))
+
+abbrev entry11 : Entry
+entry11 = on_line 1 11 (called (CallerEvent.Hold (record { id = (record { 0 = 0 }); path = text17; headers = ([]); word = 0 })) (CallerReply.Routed 3 (RouteAnswer.To 0 0)))
+
+abbrev entry12 : Entry
+entry12 = on_line 1 12 (called (CallerEvent.Pick (record { 0 = 0 }) 0) (CallerReply.Endpoint 3 0 0 0))
+
+abbrev entry13 : Entry
+entry13 = on_line 0 13 (driven (DriverEvent.Endpoint text12 State.Failing) Verdict.Done None ([]) (Some 4) ([]))
+
+abbrev entry14 : Entry
+entry14 = on_line 0 14 (driven (DriverEvent.Endpoint text13 State.Failing) Verdict.Done None ([]) (Some 5) ([]))
+
+abbrev entry15 : Entry
+entry15 = on_line 0 15 (driven (DriverEvent.Endpoint text14 State.Ready) Verdict.Done None ([]) (Some 6) ([]))
+
+abbrev entry16 : Entry
+entry16 = on_line 0 16 (driven (DriverEvent.Endpoint text15 State.Ready) Verdict.Done None ([]) (Some 7) ([]))
+
+abbrev entry17 : Entry
+entry17 = on_line 1 17 (called (CallerEvent.Pick (record { 0 = 0 }) 0) (CallerReply.Endpoint 7 1 0 0))
+
+abbrev entry18 : Entry
+entry18 = on_line 1 18 (called (CallerEvent.Pick (record { 0 = 0 }) 0) (CallerReply.Endpoint 7 1 0 1))
+
+abbrev entry19 : Entry
+entry19 = on_line 1 19 (called (CallerEvent.Pick (record { 0 = 0 }) 0) (CallerReply.Endpoint 7 1 0 0))
+
+abbrev entry20 : Entry
+entry20 = on_line 0 20 (driven (DriverEvent.Endpoint text12 State.Ready) Verdict.Done None ([]) (Some 8) ([]))
+
+abbrev entry21 : Entry
+entry21 = on_line 0 21 (driven (DriverEvent.Endpoint text13 State.Ready) Verdict.Done None ([]) (Some 9) ([]))
+
+abbrev entry22 : Entry
+entry22 = on_line 1 22 (called (CallerEvent.Pick (record { 0 = 0 }) 0) (CallerReply.Endpoint 9 0 0 1))
+
+abbrev entry23 : Entry
+entry23 = on_line 1 23 (called (CallerEvent.Pick (record { 0 = 0 }) 0) (CallerReply.Endpoint 9 0 0 0))
+
+abbrev entry24 : Entry
+entry24 = on_line 0 0 (driven DriverEvent.Sweep Verdict.Done None ([]) None ([]))
+
+abbrev snapshot1 : Snapshot
+snapshot1 = (record { number = 1; config = (record { front = (Ok (record { listener = text0; routes = routes8; host = 0 })); clusters = ((record { name = text1; state = (Ok (record { aggregate = false; leaves = ((record { name = text1; state = (Ok endpoints16) }) ∷ []) })) }) ∷ []) }); trees = ((Ok (record { children = ((record { leaf = text1; priority = 0; view = (record { there = true; state = State.Connecting; pending = true; unused = false }) }) ∷ (record { leaf = text1; priority = 1; view = (record { there = false; state = State.Connecting; pending = false; unused = false }) }) ∷ []); chosen = 0; waiting = None; picker = (record { drops = ([]); body = PickBody.Queue }) })) ∷ []) })
+
+abbrev snapshot2 : Snapshot
+snapshot2 = (record { number = 2; config = (record { front = (Ok (record { listener = text0; routes = routes8; host = 0 })); clusters = ((record { name = text1; state = (Ok (record { aggregate = false; leaves = ((record { name = text1; state = (Ok endpoints16) }) ∷ []) })) }) ∷ []) }); trees = ((Ok (record { children = ((record { leaf = text1; priority = 0; view = (record { there = true; state = State.Ready; pending = false; unused = false }) }) ∷ (record { leaf = text1; priority = 1; view = (record { there = false; state = State.Connecting; pending = false; unused = false }) }) ∷ []); chosen = 0; waiting = None; picker = (record { drops = ([]); body = (PickBody.Ready ((record { locality = 0; weight = 1; ready = (text12 ∷ []) }) ∷ []) (1 ∷ [])) }) })) ∷ []) })
+
+abbrev snapshot3 : Snapshot
+snapshot3 = (record { number = 3; config = (record { front = (Ok (record { listener = text0; routes = routes8; host = 0 })); clusters = ((record { name = text1; state = (Ok (record { aggregate = false; leaves = ((record { name = text1; state = (Ok endpoints16) }) ∷ []) })) }) ∷ []) }); trees = ((Ok (record { children = ((record { leaf = text1; priority = 0; view = (record { there = true; state = State.Ready; pending = false; unused = false }) }) ∷ (record { leaf = text1; priority = 1; view = (record { there = false; state = State.Connecting; pending = false; unused = false }) }) ∷ []); chosen = 0; waiting = None; picker = (record { drops = ([]); body = (PickBody.Ready ((record { locality = 0; weight = 1; ready = (text12 ∷ text13 ∷ []) }) ∷ []) (1 ∷ [])) }) })) ∷ []) })
+
+abbrev snapshot4 : Snapshot
+snapshot4 = (record { number = 4; config = (record { front = (Ok (record { listener = text0; routes = routes8; host = 0 })); clusters = ((record { name = text1; state = (Ok (record { aggregate = false; leaves = ((record { name = text1; state = (Ok endpoints16) }) ∷ []) })) }) ∷ []) }); trees = ((Ok (record { children = ((record { leaf = text1; priority = 0; view = (record { there = true; state = State.Ready; pending = false; unused = false }) }) ∷ (record { leaf = text1; priority = 1; view = (record { there = false; state = State.Connecting; pending = false; unused = false }) }) ∷ []); chosen = 0; waiting = None; picker = (record { drops = ([]); body = (PickBody.Ready ((record { locality = 0; weight = 1; ready = (text13 ∷ []) }) ∷ []) (1 ∷ [])) }) })) ∷ []) })
+
+abbrev snapshot5 : Snapshot
+snapshot5 = (record { number = 5; config = (record { front = (Ok (record { listener = text0; routes = routes8; host = 0 })); clusters = ((record { name = text1; state = (Ok (record { aggregate = false; leaves = ((record { name = text1; state = (Ok endpoints16) }) ∷ []) })) }) ∷ []) }); trees = ((Ok (record { children = ((record { leaf = text1; priority = 0; view = (record { there = true; state = State.Failing; pending = false; unused = false }) }) ∷ (record { leaf = text1; priority = 1; view = (record { there = true; state = State.Connecting; pending = true; unused = false }) }) ∷ []); chosen = 1; waiting = None; picker = (record { drops = ([]); body = PickBody.Queue }) })) ∷ []) })
+
+abbrev snapshot6 : Snapshot
+snapshot6 = (record { number = 6; config = (record { front = (Ok (record { listener = text0; routes = routes8; host = 0 })); clusters = ((record { name = text1; state = (Ok (record { aggregate = false; leaves = ((record { name = text1; state = (Ok endpoints16) }) ∷ []) })) }) ∷ []) }); trees = ((Ok (record { children = ((record { leaf = text1; priority = 0; view = (record { there = true; state = State.Failing; pending = false; unused = false }) }) ∷ (record { leaf = text1; priority = 1; view = (record { there = true; state = State.Ready; pending = false; unused = false }) }) ∷ []); chosen = 1; waiting = None; picker = (record { drops = ([]); body = (PickBody.Ready ((record { locality = 0; weight = 1; ready = (text14 ∷ []) }) ∷ []) (1 ∷ [])) }) })) ∷ []) })
+
+abbrev snapshot7 : Snapshot
+snapshot7 = (record { number = 7; config = (record { front = (Ok (record { listener = text0; routes = routes8; host = 0 })); clusters = ((record { name = text1; state = (Ok (record { aggregate = false; leaves = ((record { name = text1; state = (Ok endpoints16) }) ∷ []) })) }) ∷ []) }); trees = ((Ok (record { children = ((record { leaf = text1; priority = 0; view = (record { there = true; state = State.Failing; pending = false; unused = false }) }) ∷ (record { leaf = text1; priority = 1; view = (record { there = true; state = State.Ready; pending = false; unused = false }) }) ∷ []); chosen = 1; waiting = None; picker = (record { drops = ([]); body = (PickBody.Ready ((record { locality = 0; weight = 1; ready = (text14 ∷ text15 ∷ []) }) ∷ []) (1 ∷ [])) }) })) ∷ []) })
+
+abbrev snapshot8 : Snapshot
+snapshot8 = (record { number = 8; config = (record { front = (Ok (record { listener = text0; routes = routes8; host = 0 })); clusters = ((record { name = text1; state = (Ok (record { aggregate = false; leaves = ((record { name = text1; state = (Ok endpoints16) }) ∷ []) })) }) ∷ []) }); trees = ((Ok (record { children = ((record { leaf = text1; priority = 0; view = (record { there = true; state = State.Ready; pending = false; unused = false }) }) ∷ (record { leaf = text1; priority = 1; view = (record { there = true; state = State.Ready; pending = false; unused = true }) }) ∷ []); chosen = 0; waiting = None; picker = (record { drops = ([]); body = (PickBody.Ready ((record { locality = 0; weight = 1; ready = (text12 ∷ []) }) ∷ []) (1 ∷ [])) }) })) ∷ []) })
+
+abbrev snapshot9 : Snapshot
+snapshot9 = (record { number = 9; config = (record { front = (Ok (record { listener = text0; routes = routes8; host = 0 })); clusters = ((record { name = text1; state = (Ok (record { aggregate = false; leaves = ((record { name = text1; state = (Ok endpoints16) }) ∷ []) })) }) ∷ []) }); trees = ((Ok (record { children = ((record { leaf = text1; priority = 0; view = (record { there = true; state = State.Ready; pending = false; unused = false }) }) ∷ (record { leaf = text1; priority = 1; view = (record { there = true; state = State.Ready; pending = false; unused = true }) }) ∷ []); chosen = 0; waiting = None; picker = (record { drops = ([]); body = (PickBody.Ready ((record { locality = 0; weight = 1; ready = (text12 ∷ text13 ∷ []) }) ∷ []) (1 ∷ [])) }) })) ∷ []) })
+
+-- the newest first
+abbrev history : List Entry
+history = entry24 ∷ entry23 ∷ entry22 ∷ entry21 ∷ entry20 ∷ entry19 ∷ entry18 ∷ entry17 ∷ entry16 ∷ entry15 ∷ entry14 ∷ entry13 ∷ entry12 ∷ entry11 ∷ entry10 ∷ entry9 ∷ entry8 ∷ entry7 ∷ entry6 ∷ entry5 ∷ entry4 ∷ entry3 ∷ entry2 ∷ entry1 ∷ []
+
+replies : replayed set ([]) history ≡ as_made history
+unfolding leaves_within goes_on ends
+replies = refl
+
+published : snapshots set history ≡ snapshot9 ∷ snapshot8 ∷ snapshot7 ∷ snapshot6 ∷ snapshot5 ∷ snapshot4 ∷ snapshot3 ∷ snapshot2 ∷ snapshot1 ∷ []
+unfolding leaves_within goes_on ends
+published = refl
+
+-- what stands at each driver's entry, and its number: seen where the first snapshot isn't 1, where one is published that
+-- shows nothing new, or where one that does isn't
+abbrev told : List Step
+told = ((record { stands = (Some (shown snapshot9)); last = (Some snapshot9); number = None }) ∷ (record { stands = (Some (shown snapshot9)); last = (Some snapshot8); number = (Some 9) }) ∷ (record { stands = (Some (shown snapshot8)); last = (Some snapshot7); number = (Some 8) }) ∷ (record { stands = (Some (shown snapshot7)); last = (Some snapshot6); number = (Some 7) }) ∷ (record { stands = (Some (shown snapshot6)); last = (Some snapshot5); number = (Some 6) }) ∷ (record { stands = (Some (shown snapshot5)); last = (Some snapshot4); number = (Some 5) }) ∷ (record { stands = (Some (shown snapshot4)); last = (Some snapshot3); number = (Some 4) }) ∷ (record { stands = (Some (shown snapshot3)); last = (Some snapshot2); number = (Some 3) }) ∷ (record { stands = (Some (shown snapshot2)); last = (Some snapshot1); number = (Some 2) }) ∷ (record { stands = (Some (shown snapshot1)); last = (Some snapshot1); number = None }) ∷ (record { stands = (Some (shown snapshot1)); last = None; number = (Some 1) }) ∷ (record { stands = None; last = None; number = None }) ∷ (record { stands = None; last = None; number = None }) ∷ (record { stands = None; last = None; number = None }) ∷ (record { stands = None; last = None; number = None }) ∷ (record { stands = None; last = None; number = None }) ∷ [])
+
+stood : steps set history ≡ told
+unfolding leaves_within goes_on ends
+stood = refl
+
+numbered : AreNumbered told
+numbered = (refl, ((refl, are_apart snapshot9 snapshot8 refl), ((refl, are_apart snapshot8 snapshot7 refl), ((refl, are_apart snapshot7 snapshot6 refl), ((refl, are_apart snapshot6 snapshot5 refl), ((refl, are_apart snapshot5 snapshot4 refl), ((refl, are_apart snapshot4 snapshot3 refl), ((refl, are_apart snapshot3 snapshot2 refl), ((refl, are_apart snapshot2 snapshot1 refl), (refl, (refl, (refl, (refl, (refl, (refl, (refl, tt))))))))))))))))
+
+abbrev line5 : Line
+line5 = (record { number = 5; gate = None; work = (Work.Driver (DriverLine.Opened (record { 0 = 0 }))) })
+
+abbrev line6 : Line
+line6 = (record { number = 6; gate = None; work = (Work.Driver (DriverLine.Bytes (record { 0 = 0 }) (0 ∷ 0 ∷ 0 ∷ 0 ∷ 1 ∷ 0 ∷ []))) })
+
+abbrev line7 : Line
+line7 = (record { number = 7; gate = None; work = (Work.Driver (DriverLine.Bytes (record { 0 = 0 }) (0 ∷ 0 ∷ 0 ∷ 0 ∷ 1 ∷ 1 ∷ []))) })
+
+abbrev line8 : Line
+line8 = (record { number = 8; gate = None; work = (Work.Driver (DriverLine.Bytes (record { 0 = 0 }) (0 ∷ 0 ∷ 0 ∷ 0 ∷ 1 ∷ 2 ∷ []))) })
+
+abbrev line9 : Line
+line9 = (record { number = 9; gate = None; work = (Work.Driver (DriverLine.Endpoint text12 State.Ready)) })
+
+abbrev line10 : Line
+line10 = (record { number = 10; gate = None; work = (Work.Driver (DriverLine.Endpoint text13 State.Ready)) })
+
+abbrev line11 : Line
+line11 = (record { number = 11; gate = None; work = (Work.Caller 1 (Act.Start (record { id = (record { 0 = 0 }); path = text17; headers = ([]); word = 0 }))) })
+
+abbrev line12 : Line
+line12 = (record { number = 12; gate = None; work = (Work.Caller 1 (Act.Pick (record { 0 = 0 }) 0)) })
+
+abbrev line13 : Line
+line13 = (record { number = 13; gate = None; work = (Work.Driver (DriverLine.Endpoint text12 State.Failing)) })
+
+abbrev line14 : Line
+line14 = (record { number = 14; gate = None; work = (Work.Driver (DriverLine.Endpoint text13 State.Failing)) })
+
+abbrev line15 : Line
+line15 = (record { number = 15; gate = None; work = (Work.Driver (DriverLine.Endpoint text14 State.Ready)) })
+
+abbrev line16 : Line
+line16 = (record { number = 16; gate = None; work = (Work.Driver (DriverLine.Endpoint text15 State.Ready)) })
+
+abbrev line17 : Line
+line17 = (record { number = 17; gate = None; work = (Work.Caller 1 (Act.Pick (record { 0 = 0 }) 0)) })
+
+abbrev line18 : Line
+line18 = (record { number = 18; gate = None; work = (Work.Caller 1 (Act.Pick (record { 0 = 0 }) 0)) })
+
+abbrev line19 : Line
+line19 = (record { number = 19; gate = None; work = (Work.Caller 1 (Act.Pick (record { 0 = 0 }) 0)) })
+
+abbrev line20 : Line
+line20 = (record { number = 20; gate = None; work = (Work.Driver (DriverLine.Endpoint text12 State.Ready)) })
+
+abbrev line21 : Line
+line21 = (record { number = 21; gate = None; work = (Work.Driver (DriverLine.Endpoint text13 State.Ready)) })
+
+abbrev line22 : Line
+line22 = (record { number = 22; gate = None; work = (Work.Caller 1 (Act.Pick (record { 0 = 0 }) 0)) })
+
+abbrev line23 : Line
+line23 = (record { number = 23; gate = None; work = (Work.Caller 1 (Act.Pick (record { 0 = 0 }) 0)) })
+
+abbrev lines : List Line
+lines = line5 ∷ line6 ∷ line7 ∷ line8 ∷ line9 ∷ line10 ∷ line11 ∷ line12 ∷ line13 ∷ line14 ∷ line15 ∷ line16 ∷ line17 ∷ line18 ∷ line19 ∷ line20 ∷ line21 ∷ line22 ∷ line23 ∷ []
+
+-- the oldest first
+abbrev entries : List Entry
+entries = entry1 ∷ entry2 ∷ entry3 ∷ entry4 ∷ entry5 ∷ entry6 ∷ entry7 ∷ entry8 ∷ entry9 ∷ entry10 ∷ entry11 ∷ entry12 ∷ entry13 ∷ entry14 ∷ entry15 ∷ entry16 ∷ entry17 ∷ entry18 ∷ entry19 ∷ entry20 ∷ entry21 ∷ entry22 ∷ entry23 ∷ entry24 ∷ []
+
+-- each line's events once and in order: seen where a line is left out, or comes twice
+each : (caller : ℕ) → 1 ≤ caller → caller ≤ 1 → ArePlayed (lines_by caller lines) (entries_by caller entries)
+each zero low high = absurd (omega (arith, low))
+each (suc zero) low high = (next line11 (line12 ∷ line17 ∷ line18 ∷ line19 ∷ line22 ∷ line23 ∷ []) (entry10 ∷ entry11 ∷ []) (entry12 ∷ entry17 ∷ entry18 ∷ entry19 ∷ entry22 ∷ entry23 ∷ []) (All-from_recursion (λ entry. entry.line ≡ 11) (entry10 ∷ entry11 ∷ []) (refl, (refl, tt))) (inr refl) (next line12 (line17 ∷ line18 ∷ line19 ∷ line22 ∷ line23 ∷ []) (entry12 ∷ []) (entry17 ∷ entry18 ∷ entry19 ∷ entry22 ∷ entry23 ∷ []) (All-from_recursion (λ entry. entry.line ≡ 12) (entry12 ∷ []) (refl, tt)) refl (next line17 (line18 ∷ line19 ∷ line22 ∷ line23 ∷ []) (entry17 ∷ []) (entry18 ∷ entry19 ∷ entry22 ∷ entry23 ∷ []) (All-from_recursion (λ entry. entry.line ≡ 17) (entry17 ∷ []) (refl, tt)) refl (next line18 (line19 ∷ line22 ∷ line23 ∷ []) (entry18 ∷ []) (entry19 ∷ entry22 ∷ entry23 ∷ []) (All-from_recursion (λ entry. entry.line ≡ 18) (entry18 ∷ []) (refl, tt)) refl (next line19 (line22 ∷ line23 ∷ []) (entry19 ∷ []) (entry22 ∷ entry23 ∷ []) (All-from_recursion (λ entry. entry.line ≡ 19) (entry19 ∷ []) (refl, tt)) refl (next line22 (line23 ∷ []) (entry22 ∷ []) (entry23 ∷ []) (All-from_recursion (λ entry. entry.line ≡ 22) (entry22 ∷ []) (refl, tt)) refl (next line23 ([]) (entry23 ∷ []) ([]) (All-from_recursion (λ entry. entry.line ≡ 23) (entry23 ∷ []) (refl, tt)) refl all)))))))
+each (suc (suc n)) low high = absurd (omega (arith, high))
+
+-- seen where the driver lists nothing, no responses, or not the last sweep
+listed : AreListed (is_read set) 1 lines entries
+unfolding driver_list cut cut_within first_frame fault_at
+listed = record { driver = refl; each_caller = each; actors = All-from_recursion (λ entry. entry.actor ≤ 1) entries (at_most 0 1 refl, (at_most 0 1 refl, (at_most 0 1 refl, (at_most 0 1 refl, (at_most 0 1 refl, (at_most 0 1 refl, (at_most 0 1 refl, (at_most 0 1 refl, (at_most 0 1 refl, (at_most 1 1 refl, (at_most 1 1 refl, (at_most 1 1 refl, (at_most 0 1 refl, (at_most 0 1 refl, (at_most 0 1 refl, (at_most 0 1 refl, (at_most 1 1 refl, (at_most 1 1 refl, (at_most 1 1 refl, (at_most 0 1 refl, (at_most 0 1 refl, (at_most 1 1 refl, (at_most 1 1 refl, (at_most 0 1 refl, tt)))))))))))))))))))))))) }
+
+started1 : AreStarted (entries_by 1 entries)
+started1 = (refl, (tt, (tt, (tt, (tt, (tt, (tt, (tt, tt))))))))
+
+-- seen where a line's end isn't told, so that a gate stays shut
+opened : AreOpen lines history
+opened = (tt, (tt, (tt, (tt, (tt, (tt, (tt, (tt, (tt, (tt, (tt, (tt, (tt, (tt, (tt, (tt, (tt, (tt, (tt, (tt, (tt, (tt, (tt, (tt, tt))))))))))))))))))))))))
+
+swept : EndsInSweep history
+swept = refl

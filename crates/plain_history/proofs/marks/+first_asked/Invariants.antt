@@ -1,5 +1,0 @@
-use Rattle.std.proofs.Common.{length}
-use Rattle.plain_history.proofs.marks.+first_asked.Given as goal
-
-abbrev pub decreases-first_asked : goal.decreases-first_asked
-decreases-first_asked l = length l.pages.now

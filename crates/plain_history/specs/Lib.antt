@@ -1,3 +1,0 @@
-pub mod Given
-pub mod Lawful
-pub mod Views

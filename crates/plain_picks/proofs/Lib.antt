@@ -1,2 +1,0 @@
-pub mod PickLemmas
-pub mod PickerLemmas

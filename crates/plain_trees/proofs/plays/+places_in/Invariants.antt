@@ -1,5 +1,0 @@
-use Rattle.std.proofs.Common.{length}
-use Rattle.plain_trees.proofs.plays.+places_in.Given as goal
-
-abbrev pub decreases-places_in : goal.decreases-places_in
-decreases-places_in l = length l.children.now

@@ -1,5 +1,0 @@
-use Rattle.std.proofs.Common.{length}
-use Rattle.plain_trees.proofs.plays.+states_of.Given as goal
-
-abbrev pub decreases-states_of : goal.decreases-states_of
-decreases-states_of l = length l.children.now

@@ -1,0 +1,4 @@
+pub mod BegunCalls
+pub mod OpenPins
+pub mod CallProofs
+pub mod RoomProofs

@@ -1,0 +1,3 @@
+pub mod PublishedLemmas
+pub mod ShownLemmas
+mod ReportProofs

@@ -1,0 +1,2 @@
+mod ReportEscapes
+pub mod ReportRows

@@ -1,4 +1,0 @@
-use Rattle.resource_check.proofs.cluster.shape.Goals as goal
-
-pub returns-in-Some-ClusterType-clause-lawful : goal.returns-in-Some-ClusterType-clause-lawful
-returns-in-Some-ClusterType-clause-lawful c = c.aggregate_shape.ensures.lawful c.args.name.now

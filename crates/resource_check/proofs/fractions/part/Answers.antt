@@ -1,5 +1,0 @@
-use Rattle.resource_check.proofs.FractionLemmas.{of_none}
-use Rattle.resource_check.proofs.fractions.part.Goals as goal
-
-pub returns-in-None : goal.returns-in-None
-returns-in-None c = of_none c.args.fraction _ c.in-None.is

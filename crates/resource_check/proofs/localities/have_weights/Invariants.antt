@@ -1,9 +1,0 @@
-use Rattle.std.proofs.Common.{◌≡◌, ◌<◌, ◌^◌, drop}
-use Rattle.resource_check.proofs.WeightLemmas.{fits_from}
-use Rattle.resource_check.proofs.localities.have_weights.Given as goal
-
-abbrev pub invariant-loop-locality : goal.invariant-loop-locality
-invariant-loop-locality l = record {
-  small : l.sum < 2 ^ 32;
-  rest : fits_from l.priority l.sum (drop l.locality-index l.localities) ≡ fits_from 0 0 l.localities;
-}

@@ -1,9 +1,0 @@
-use Rattle.std.proofs.Common.{◌≡◌, ◌<◌, ◌^◌, sum, take}
-use Rattle.xds_config.specs.Routes.{weights_of}
-use Rattle.resource_check.proofs.routes.can_be_chosen.Given as goal
-
-abbrev pub invariant-loop-weighted : goal.invariant-loop-weighted
-invariant-loop-weighted l = record {
-  fits : l.sum < 2 ^ 32;
-  is : l.sum ≡ sum (weights_of (take l.weighted-index l.clusters));
-}

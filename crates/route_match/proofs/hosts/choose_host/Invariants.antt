@@ -1,6 +1,0 @@
-use Rattle.std.proofs.Common.{take}
-use Rattle.route_match.proofs.HostLemmas.{IsChosenOf}
-use Rattle.route_match.proofs.hosts.choose_host.Given as goal
-
-abbrev pub invariant-loop-place : goal.invariant-loop-place
-invariant-loop-place l = IsChosenOf (take l.place l.host-items) l.text l.best

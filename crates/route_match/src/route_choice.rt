@@ -1,0 +1,163 @@
+//! Which route a call takes.
+ghost use Rattle.std.specs.Prelude.{◌≡◌, ◌≤◌, ◌<◌, ◌+◌, ◌*◌, ◌/◌, ◌^◌, length, sum, All, AllPairs, IfOk, OnOk};
+ghost use Rattle.std.specs.List.{list_all};
+ghost use Rattle.xds_config.specs.RouteValues.{IsLawfulRoute, IsLawfulAction, IsLawfulSplit, weights_of};
+ghost use Rattle.xds_config.specs.Configs.{IsLawfulFront};
+ghost use Rattle.weight_pick.specs.Weights.{place_by_weight};
+ghost use Rattle.header_match.specs.Headers.{header_met};
+ghost use Rattle.route_match.specs.Routes.{path_met, share_met, route_met, routes_of, led, routed, route, tried, routes_tried};
+
+use crate::answer::RouteAnswer;
+use header_match::texts::{begins_with, is_same};
+use header_match::{HeaderRule, header_met};
+use std::alloc::Global;
+use std::sync::ledger::Ledger;
+use weight_pick::{Fraction, fraction_met};
+use xc_base::{Call, Memory, Reason, Steps, draw};
+use xds_config::{Action, Front, PathTest, Route, Weighted};
+
+/// Where a call goes (gRFC A28): by the route of least place among those of the front's virtual host whose
+/// path, headers and fraction hold. It counts one step for each route that is tried, and takes memory
+/// only where several values of one header are joined or a pattern runs.
+pub fn choose_route<L: Ledger>(
+    alloc: Global,
+    front: &Result<Front, Reason>,
+    call: &Call,
+    steps: &mut Steps<L>,
+) -> Result<RouteAnswer, Memory>
+    requires lawful { IfOk front.now IsLawfulFront }
+    ensures answer { IfOk result (λ answer. answer ≡ route front.now call.now) }
+    ensures cost { OnOk result (steps.new ≡ steps.old + routes_tried front.now call.now) }
+    ensures later { steps.old ≤ steps.new }
+{
+    match front {
+        Ok(front) => take_route(alloc, routes_of(front), call, steps),
+        Err(reason) => Ok(RouteAnswer::NoFront { reason: *reason }),
+    }
+}
+
+/// The routes of a front's virtual host.
+pub(crate) fn routes_of(front: &Front) -> &[Route]
+    ensures { result.now ≡ routes_of front.now }
+{
+    match front.routes.get().hosts.as_slice().get(front.host as usize) {
+        Some(host) => host.routes.as_slice(),
+        None => &[],
+    }
+}
+
+/// Where the first of the routes that is for the call leads it.
+fn take_route<L: Ledger>(
+    alloc: Global,
+    routes: &[Route],
+    call: &Call,
+    steps: &mut Steps<L>,
+) -> Result<RouteAnswer, Memory>
+    requires lawful { All IsLawfulRoute routes.now }
+    requires rising { AllPairs (λ a b. a.place < b.place) routes.now }
+    ensures answer { IfOk result (λ answer. answer ≡ routed routes.now call.now) }
+    ensures cost { OnOk result (steps.new ≡ steps.old + tried routes.now call.now) }
+    ensures later { steps.old ≤ steps.new }
+{
+    for route in routes {
+        steps.tick();
+        if route_met(alloc, call, route)? {
+            return Ok(destination(call.word, route));
+        }
+    }
+    Ok(RouteAnswer::NoRoute)
+}
+
+/// Whether a route is for the call: its path, all its headers and its fraction hold.
+fn route_met(alloc: Global, call: &Call, route: &Route) -> Result<bool, Memory>
+    requires { route.now.place < 2 ^ 31 }
+    ensures { IfOk result (λ met. met ≡ route_met call.now route.now) }
+{
+    if !path_met(&route.path, call)? || !headers_met(alloc, route.headers.as_slice(), call)? {
+        return Ok(false);
+    }
+    Ok(share_met(route.fraction, draw(call.word, 2 * route.place)))
+}
+
+/// Whether the path of a call meets a test.
+fn path_met(test: &PathTest, call: &Call) -> Result<bool, Memory>
+    ensures { IfOk result (λ met. met ≡ path_met test.now call.now.path) }
+{
+    let path = call.path.as_str().as_bytes();
+    match test {
+        PathTest::Prefix { text, case } => Ok(begins_with(path, text.as_str().as_bytes(), !*case)),
+        PathTest::Whole { text, case } => Ok(is_same(path, text.as_str().as_bytes(), !*case)),
+        PathTest::Pattern(pattern) => pattern.meets(call.path.as_str()),
+    }
+}
+
+/// Whether a call meets all header rules of a route.
+fn headers_met(alloc: Global, rules: &[HeaderRule], call: &Call) -> Result<bool, Memory>
+    ensures { IfOk result (λ met. met ≡ list_all (λ rule. header_met rule call.now) rules.now) }
+{
+    for rule in rules {
+        if !header_met(alloc, rule, call)? {
+            return Ok(false);
+        }
+    }
+    Ok(true)
+}
+
+/// Whether a draw is among those that a route takes; a route without a fraction takes all.
+fn share_met(fraction: Option<Fraction>, draw: u32) -> bool
+    ensures { result ≡ share_met fraction draw }
+{
+    match fraction {
+        Some(fraction) => fraction_met(fraction, draw),
+        None => true,
+    }
+}
+
+/// Where a route leads a call of this word: to the cluster that a draw chooses by weight, or nowhere.
+fn destination(word: u64, route: &Route) -> RouteAnswer
+    requires { IsLawfulRoute route.now }
+    ensures { result ≡ led word route.now.place route.now.action }
+{
+    match &route.action {
+        Action::To(clusters) => {
+            let choice = choice(clusters.as_slice(), draw(word, 2 * route.place + 1));
+            RouteAnswer::To {
+                route: route.place,
+                choice,
+            }
+        }
+        Action::Nothing => RouteAnswer::NoAction { route: route.place },
+    }
+}
+
+/// The place in the list of clusters, from 0, that a draw chooses by weight.
+fn choice(clusters: &[Weighted], draw: u32) -> u32
+    requires { IsLawfulSplit clusters.now }
+    ensures { result ≡ place_by_weight (weights_of clusters.now) draw }
+{
+    let target = target_of(clusters, draw);
+    let mut sum = 0u64;
+    for (place, cluster) in clusters.iter().enumerate() {
+        sum += u64::from(cluster.weight);
+        if target < sum {
+            return place as u32;
+        }
+    }
+    0
+}
+
+/// A draw, brought from 32 bits to a number below the sum of the weights.
+fn target_of(clusters: &[Weighted], draw: u32) -> u64
+    requires { IsLawfulSplit clusters.now }
+    ensures { result ≡ draw * sum (weights_of clusters.now) / 2 ^ 32 }
+{
+    u64::from(draw) * total_weight(clusters) >> 32
+}
+
+/// The sum of the weights of clusters.
+fn total_weight(clusters: &[Weighted]) -> u64
+    requires { length clusters.now < 2 ^ 31 }
+    ensures { result ≡ sum (weights_of clusters.now) }
+{
+    clusters.iter().map(|c| u64::from(c.weight)).sum()
+}

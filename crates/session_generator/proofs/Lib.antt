@@ -1,0 +1,2 @@
+mod GeneratedLemmas
+mod PartLemmas

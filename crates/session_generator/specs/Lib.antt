@@ -1,0 +1,4 @@
+pub mod ShortForms
+pub mod FirstLines
+pub mod Rounds
+pub mod Generated

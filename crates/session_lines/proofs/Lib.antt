@@ -1,0 +1,5 @@
+pub mod FieldLemmas
+mod KeptLemmas
+pub mod LineLemmas
+mod TextLemmas
+mod WordLemmas

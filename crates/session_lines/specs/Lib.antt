@@ -1,0 +1,9 @@
+pub mod LineCauses
+pub mod Lines
+pub mod Forms
+pub mod Before
+pub mod WordValues
+pub mod Works
+pub mod SessionViews
+pub mod Session
+pub mod KeptSession

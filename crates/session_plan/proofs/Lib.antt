@@ -1,0 +1,10 @@
+pub mod PayloadLemmas
+pub mod ShortLemmas
+pub mod ComingLemmas
+pub mod WaitingLemmas
+pub mod StreamLemmas
+pub mod ListLemmas
+pub mod DriverLemmas
+pub mod CallerLemmas
+pub mod EndedLemmas
+pub mod LawProofs

@@ -1,0 +1,30 @@
+use Rattle.std.proofs.Common.{◌≡◌, sym, subst, ap, OnOk}
+use Rattle.call_journal.specs.declared.event.CallerEvent.{CallerEvent}
+use Rattle.xds_history.specs.Setting.{setting_of}
+use Rattle.xds_book.specs.BookEntries.{answered_call}
+use Rattle.session_player.proofs.StageLemmas.{adds_seen, lanes_after, own_lane}
+use Rattle.session_player.proofs.stage.Stage.commit.Goals.{in-Ok, in-Err}
+use Rattle.session_player.proofs.stage.Stage.commit.Goals as goal
+
+pub commit-requires-clause-counted : goal.commit-requires-clause-counted
+commit-requires-clause-counted g c = (own_lane c.self.inside.book c.self.inside.lanes.items c.args.caller c.index_mut-lane.result.now c.self.invariant (rw (← c.self.view_is) at c.requires.known) c.index_mut-lane.ensures.value).counted
+
+pub commit-requires-clause-next : goal.commit-requires-clause-next
+commit-requires-clause-next g c =
+    let own = own_lane c.self.inside.book c.self.inside.lanes.items c.args.caller c.index_mut-lane.result.now c.self.invariant (rw (← c.self.view_is) at c.requires.known) c.index_mut-lane.ensures.value in
+    rw (own.at.actor_is, own.at.count_is) (rw (← c.self.view_is) at c.requires.next)
+
+pub invariant_of-self : goal.invariant_of-self
+invariant_of-self g c =
+    lanes_after c.commit.result c.self.inside.book c.commit.new.self c.self.inside.lanes.items c.args.caller c.args.line
+    (answered_call (setting_of g.J.Job.boot g.J.Job.target) c.self.inside.book.entries (CallerEvent.Commit c.args.call)) c.index_mut-lane.result.now c.commit.new.lane
+    c.self.invariant (rw (← c.self.view_is) at c.requires.known) c.index_mut-lane.ensures.value c.commit.ensures.entry c.commit.ensures.none c.commit.ensures.lane
+
+pub returns : goal.returns
+returns g c = elim c.match-commit.branch [
+  | in-Ok w ↦ rw w.result-is
+      (adds_seen c.args.self.now c.self.inside.book c.commit.new.self c.self.inside.lanes.items c.args.caller c.args.line
+      (λ b. answered_call (setting_of g.J.Job.boot g.J.Job.target) b.entries (CallerEvent.Commit c.args.call)) c.index_mut-lane.result.now c.commit.new.lane
+      c.self.invariant (rw (← c.self.view_is) at c.requires.known) c.index_mut-lane.ensures.value c.self.view_is w.in-Ok.ensures.entry)
+  | in-Err w ↦ rw w.result-is tt
+]

@@ -1,0 +1,3 @@
+pub mod LineProgress
+pub mod PlayerLaws
+pub mod Stages

@@ -1,5 +1,0 @@
-use Rattle.session_script.proofs.TableLemmas.{line_faults}
-use Rattle.session_script.proofs.laws.faults_are_in_order.Goals as goal
-
-pub returns : goal.returns
-returns c = line_faults

@@ -1,7 +1,0 @@
-use Rattle.std.proofs.Common.{refl}
-use Rattle.session_script.specs.Lines.{lines_of}
-use Rattle.session_script.proofs.reading.next.Goals as goal
-
-pub returns-in-None : goal.returns-in-None
-unfolding lines_of
-returns-in-None c = rw (c.in-None.ensures.none, c.at.ensures) refl

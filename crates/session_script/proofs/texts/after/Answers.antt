@@ -1,5 +1,0 @@
-use Rattle.session_script.proofs.TextLemmas.{stripped}
-use Rattle.session_script.proofs.texts.after.Goals as goal
-
-pub returns : goal.returns
-returns c = stripped c.args.front.now c.args.text.now c.strip_prefix.result c.strip_prefix.ensures.cases

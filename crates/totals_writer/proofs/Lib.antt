@@ -1,0 +1,4 @@
+mod RisingLemmas
+mod CountedLemmas
+mod TallyProofs
+mod TotalsRows

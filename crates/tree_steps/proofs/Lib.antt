@@ -1,0 +1,9 @@
+pub mod AgreeLemmas
+pub mod ChildLemmas
+pub mod HistoryLemmas
+pub mod NameLemmas
+pub mod PickLemmas
+pub mod PlaceLemmas
+pub mod QuietLemmas
+pub mod StayLemmas
+pub mod UserLemmas

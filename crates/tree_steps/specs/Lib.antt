@@ -1,0 +1,8 @@
+pub mod Reports
+pub mod TreePickers
+pub mod Lent
+pub mod Agree
+pub mod TreeSteps
+pub mod Quiet
+pub mod TreeHistories
+pub mod Users

@@ -1,0 +1,5 @@
+pub mod WeightRows
+pub mod HeaderRows
+pub mod NameRows
+pub mod ConfigRows
+pub mod RouteRows

@@ -1,5 +1,0 @@
-use Rattle.watch_timers.proofs.RunLemmas.{run_as_started}
-use Rattle.watch_timers.proofs.laws.timers_run_as_started.Goals as goal
-
-pub returns : goal.returns
-returns c = run_as_started

@@ -1,0 +1,6 @@
+use Rattle.xds_history.proofs.KeepProofs as laws
+use Rattle.xds_history.proofs.history_laws.published_has_held.Goals as goal
+
+-- src/laws.rt:38:1
+pub returns : goal.returns
+returns c = laws.published_has_held

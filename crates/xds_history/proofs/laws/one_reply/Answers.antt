@@ -1,6 +1,0 @@
-use Rattle.xds_history.proofs.LawProofs as laws
-use Rattle.xds_history.proofs.laws.one_reply.Goals as goal
-
--- src/laws.rt:5:1
-pub returns : goal.returns
-returns c = laws.one_reply

@@ -1,6 +1,0 @@
-use Rattle.xds_history.proofs.KeepProofs as laws
-use Rattle.xds_history.proofs.laws.published_has_held.Goals as goal
-
--- src/laws.rt:38:1
-pub returns : goal.returns
-returns c = laws.published_has_held

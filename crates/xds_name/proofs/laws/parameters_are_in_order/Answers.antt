@@ -1,5 +1,0 @@
-use Rattle.xds_name.proofs.OrderLemmas.{are_in_order}
-use Rattle.xds_name.proofs.laws.parameters_are_in_order.Goals as goal
-
-pub returns : goal.returns
-returns c = are_in_order

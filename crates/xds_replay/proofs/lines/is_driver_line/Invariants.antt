@@ -1,9 +1,0 @@
-use Rattle.std.proofs.Common.{◌≡◌, length}
-use Rattle.xds_replay.specs.Lines.{is_driver_line}
-use Rattle.xds_replay.proofs.lines.is_driver_line.Given as goal
-
-abbrev pub invariant-loop-word : goal.invariant-loop-word
-invariant-loop-word l = is_driver_line l.rest ≡ is_driver_line l.fn.line
-
-abbrev pub decreases-loop-word : goal.decreases-loop-word
-decreases-loop-word l = length l.rest

@@ -1,0 +1,33 @@
+use Rattle.std.proofs.Common.{sym, ◌∙◌}
+use Rattle.std.specs.Io.KnownBytes.{Appends}
+use Rattle.xds_replay.proofs.RunLemmas.{begun_of, complete_of, never_refused, nothing_begun, refusal_of, refused_of, reports_of}
+use Rattle.xds_replay.proofs.program.replay.Goals as goal
+
+pub returns-in-Err-clause-session : goal.returns-in-Err-clause-session
+returns-in-Err-clause-session g c = λ line cause same.
+    refused_of (g.S.Source.left c.args.source.now) c.deref.result.now c.in-Err.fault (rw c.deref.ensures.value c.in-Ok.ensures.bytes) c.in-Err.ensures.gives line cause (sym c.status_of.ensures ∙ same)
+
+pub returns-in-Err-clause-refused : goal.returns-in-Err-clause-refused
+returns-in-Err-clause-refused g c = λ _.
+    rw c.status_of.ensures (refusal_of (g.S.Source.left c.args.source.now) c.deref.result.now c.in-Err.fault (rw c.deref.ensures.value c.in-Ok.ensures.bytes) c.in-Err.ensures.gives)
+
+pub returns-in-Err-clause-complete : goal.returns-in-Err-clause-complete
+returns-in-Err-clause-complete g c = λ _ _.
+    rw c.status_of.ensures (complete_of (g.S.Source.left c.args.source.now) c.deref.result.now c.in-Err.fault (rw c.deref.ensures.value c.in-Ok.ensures.bytes) c.in-Err.ensures.gives)
+
+pub returns-in-Ok-play-clause-done : goal.returns-in-Ok-play-clause-done
+returns-in-Ok-play-clause-done g c = λ is.
+    reports_of (g.S.Source.left c.args.source.now) c.deref.result.now c.in-Ok-session_in.session c.in-Ok-play.played.journal.entries (g.P.Patterns.refused c.args.patterns.now) (g.P.Patterns.refused c.play.new.patterns) (Appends (g.K.Sink.held c.args.sink.now) (g.K.Sink.held c.report.new.sink))
+    (rw c.deref.ensures.value c.in-Ok.ensures.bytes) c.in-Ok-session_in.ensures.gives (record { legal = c.in-Ok-play.ensures.legal; refused = c.in-Ok-play.ensures.refused }) (c.report.ensures.done is)
+
+pub returns-in-Ok-play-clause-begun : goal.returns-in-Ok-play-clause-begun
+returns-in-Ok-play-clause-begun g c = λ is.
+    begun_of (g.S.Source.left c.args.source.now) (g.K.Sink.held c.args.sink.now) (g.K.Sink.held c.report.new.sink) c.deref.result.now c.in-Ok-session_in.session c.in-Ok-play.played.journal.entries (g.P.Patterns.refused c.args.patterns.now) (g.P.Patterns.refused c.play.new.patterns)
+    (rw c.deref.ensures.value c.in-Ok.ensures.bytes) c.in-Ok-session_in.ensures.gives (record { legal = c.in-Ok-play.ensures.legal; refused = c.in-Ok-play.ensures.refused }) (c.report.ensures.begun is)
+
+pub returns-in-Ok-play-clause-refused : goal.returns-in-Ok-play-clause-refused
+returns-in-Ok-play-clause-refused g c = λ _.
+    never_refused (g.S.Source.left c.args.source.now) c.deref.result.now c.in-Ok-session_in.session _ (rw c.deref.ensures.value c.in-Ok.ensures.bytes) c.in-Ok-session_in.ensures.gives
+
+pub returns-clause-begun : goal.returns-clause-begun
+returns-clause-begun g c = λ _. nothing_begun (g.S.Source.left c.args.source.now) (g.K.Sink.held c.args.sink.now) (g.P.Patterns.refused c.args.patterns.now) (g.P.Patterns.refused c.play.new.patterns)

@@ -1,0 +1,58 @@
+//! How a run ended.
+ghost use Rattle.std.specs.Prelude.{◌≡◌};
+ghost use Rattle.xds_replay.specs.Outcomes.{status_of, written};
+
+use line_output::OutFault;
+use session_lines::{Cause, SessionFault};
+
+/// How a run ended.
+#[derive(Clone, Copy, Debug, PartialEq, Eq)]
+pub enum Status {
+    /// The command did its work.
+    Done,
+    /// The words aren't those of a command.
+    Words,
+    /// The bytes aren't a session: the first fault, and the number of its line.
+    Session { line: u32, cause: Cause },
+    /// The source failed.
+    ReadFault,
+    /// The sink failed. What is written is a prefix of what was to be written.
+    WriteFault,
+    /// There was no memory. What is written is nothing, or such a prefix.
+    Memory,
+}
+
+impl Status {
+    /// The number with which the program ends.
+    pub fn number(self) -> u8 {
+        match self {
+            Status::Done => 0,
+            Status::Words => 2,
+            Status::Session { .. } => 3,
+            Status::ReadFault => 4,
+            Status::WriteFault => 5,
+            Status::Memory => 6,
+        }
+    }
+}
+
+/// The status of a fault of the reader.
+pub fn status_of(fault: SessionFault) -> Status
+    ensures { result ≡ status_of fault }
+{
+    match fault {
+        SessionFault::Script { line, cause } => Status::Session { line, cause },
+        SessionFault::Memory => Status::Memory,
+    }
+}
+
+/// The status of what was written.
+pub fn written(outcome: Result<(), OutFault>) -> Status
+    ensures { result ≡ written outcome }
+{
+    match outcome {
+        Ok(()) => Status::Done,
+        Err(OutFault::WriteFault) => Status::WriteFault,
+        Err(OutFault::Memory) => Status::Memory,
+    }
+}

@@ -1,0 +1,1 @@
+"""Sessions and their readable descriptions; tools/session.py is the command."""

@@ -1,0 +1,125 @@
+#!/usr/bin/env python3
+"""Refuses a program's requests to the system, one in each run, and looks at how each run ends.
+
+    refuse_memory.py [--program NAME] [--kind KIND].. [--sample N] [--onward] [SESSION..]
+
+Each session is played once for each request of a kind that it makes: `memory` (a call of malloc or the like, by any
+thread, answers that there is none), `read` and `write` (standard input or output fails), `interrupt` (a read or write is
+broken off), `short` (a read or write of several bytes moves one) and `thread` (a thread can't be started). With no kind
+it is all of them; with no session the four that are worked in examples/: a plain path, a route that moves under a
+call, a failover, and a channel with two authorities. With --sample N it is N requests of each kind, spread evenly; with
+--onward all later requests of the kind fail too.
+
+What is wanted, where the whole report is what the session gives without a fault:
+
+    memory             `out of memory` after a front of the whole report, or the whole report
+    read               `read fault` and nothing is written
+    write              `write fault` after a front of the whole report
+    interrupt          one of these two, or the whole report
+    short, thread      the whole report
+
+Each line of a session waits for the line before, so that there is one report, also with callers on threads. For each
+session and kind it prints how many requests there were, and how many runs ended in which way. The status is 1 where a
+run ended otherwise. The program is xds_replay where none is named; it is built without proof where it has to be.
+"""
+
+import argparse
+import collections
+import pathlib
+import sys
+import tempfile
+
+sys.path.insert(0, str(pathlib.Path(__file__).resolve().parent))
+import player  # noqa: E402
+import tracing  # noqa: E402
+
+SESSIONS = ["first_path", "route_moves_under_a_pin", "priority_failover", "federated_channel"]
+
+
+def words():
+    """The words of the command line."""
+    about, _, more = __doc__.partition("\n\n")
+    parser = argparse.ArgumentParser(prog="refuse_memory.py", description=about, epilog=more,
+                                     formatter_class=argparse.RawDescriptionHelpFormatter)
+    parser.add_argument("--program", default="xds_replay", help="a program of this repository that plays sessions")
+    parser.add_argument("--kind", action="append", choices=tracing.KINDS, help="what fails; all kinds where none is named")
+    parser.add_argument("--sample", type=int, metavar="N", help="at most N requests of each kind")
+    parser.add_argument("--onward", action="store_true", help="all later requests of the kind fail too")
+    parser.add_argument("session", nargs="*", metavar="SESSION", help="a session's file, or the name of an example")
+    return parser.parse_args()
+
+
+def file_of(name):
+    """The file of a session, or of an example."""
+    example = player.HOME / "examples" / f"{name}.session"
+    return example if example.exists() else pathlib.Path(name)
+
+
+def spread(count, sample):
+    """The numbers 1 to count, or so many of them, spread evenly, with the first and the last."""
+    if sample is None or sample >= count:
+        return list(range(1, count + 1))
+    if sample == 1:
+        return [1]
+    return sorted({1 + place * (count - 1) // (sample - 1) for place in range(sample)})
+
+
+def judged(kind, end, out, whole):
+    """How a run ended, and whether that is as it should be."""
+    is_whole, is_front = end == "done" and out == whole, whole.startswith(out)
+    name = "whole" if is_whole else f"{end} after a front" if is_front and out else end
+    if kind in ("short", "thread"):
+        return name, is_whole
+    if kind == "memory":
+        return name, is_whole or end == "out of memory" and is_front
+    is_read, is_write = end == "read fault" and not out, end == "write fault" and is_front
+    return name, kind != "write" and is_read or kind != "read" and is_write or kind == "interrupt" and is_whole
+
+
+class Sweep:
+    """Plays one session with one fault after another."""
+
+    def __init__(self, program, file):
+        self.program, self.file = program, file
+
+    def run(self, fault):
+        return tracing.run(self.program.command, self.file, fault)
+
+    def sweep(self, kind, sample, onward):
+        """Lets requests of a kind fail, one in each run. It gives their number, the counts of ends, and the bad runs."""
+        first = self.run(tracing.Fault(kind))
+        end = self.program.end_of(first.status, first.err)
+        if end != "done":
+            return first.count, collections.Counter(), [f"without a fault: {end}"]
+        ends, bad = collections.Counter(), []
+        for number in spread(first.count, sample):
+            ran = self.run(tracing.Fault(kind, number, onward))
+            name, is_right = judged(kind, self.program.end_of(ran.status, ran.err), ran.out, first.out)
+            ends[name] += 1
+            if not is_right:
+                bad.append(f"request {number} of {first.count}: {name}")
+        return first.count, ends, bad
+
+
+def main():
+    given = words()
+    if not tracing.is_allowed():
+        print("skipped, since programs can't be traced here (Linux on x86-64 is needed, and leave to trace)")
+        return 0
+    program, is_bad = player.built(given.program), False
+    for name in given.session or SESSIONS:
+        with tempfile.NamedTemporaryFile() as file:
+            file.write(player.in_file_order(file_of(name).read_bytes()))
+            file.flush()
+            for kind in given.kind or tracing.KINDS:
+                count, ends, bad = Sweep(program, file.name).sweep(kind, given.sample, given.onward)
+                told = ", ".join(f"{times:,} {end}" for end, times in sorted(ends.items())) or "none"
+                print(f"{pathlib.Path(name).stem}, {kind}: {count:,} requests; runs: {told}", flush=True)
+                for line in bad[:5]:
+                    print(f"    wrong: {line}", flush=True)
+                is_bad |= bool(bad)
+    return is_bad
+
+
+if __name__ == "__main__":
+    sys.exit(main())

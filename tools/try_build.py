@@ -1,0 +1,107 @@
+#!/usr/bin/env python3
+"""tools/try_build.py NAME: builds a program of this repository without any proof, and prints the path at which it is kept.
+
+`rt try` builds and runs a program, and then removes it. So this links the program to out/unproved/ while `rt try` runs it
+on no input. What was built is used again while the sum of its sources, and the kit's, stay the same. Where no program can
+be kept, a script stands in its place that runs `rt try` each time.
+"""
+
+import hashlib
+import os
+import pathlib
+import subprocess
+import sys
+import tempfile
+import time
+
+import crates
+
+KEPT = crates.HOME / "out/unproved"
+PAUSE, SHORT_PAUSE = 0.1, 0.005
+SCRIPT = '#!/bin/sh\ncd "{folder}" && exec rt try --steps 1 -- "$@"\n'
+
+
+def sum_of_sources(name):
+    """A sum over the kit's line and the code of the crates that a program is made of."""
+    known = crates.crates_of_repository()
+    total = hashlib.sha256(subprocess.run(["rt", "version"], stdout=subprocess.PIPE, check=True).stdout)
+    for it in crates.below(known, name):
+        total.update(known[it].line.encode())
+        for file in sorted((crates.HOME / "crates" / it / "src").rglob("*.rt")):
+            total.update(f"\n{file.relative_to(crates.HOME)}\n".encode() + file.read_bytes())
+    return total.hexdigest()
+
+
+def pause_of(room):
+    """How long to wait for the next look: short as soon as `rt try` has a folder to compile in."""
+    try:
+        return SHORT_PAUSE if any(it.is_dir() for it in room.glob("*/*")) else PAUSE
+    except OSError:
+        return SHORT_PAUSE  # One was removed just now.
+
+
+def link_program(room, kept):
+    """Links the program that stands in the room of `rt try`, if one does."""
+    spare = kept.with_suffix(".new")
+    try:
+        for found in room.glob("*/*/program"):
+            spare.unlink(missing_ok=True)
+            spare.hardlink_to(found)
+            spare.replace(kept)
+        spare.unlink(missing_ok=True)  # (Two links of one file are left as they are.)
+    except OSError:
+        pass  # It was removed just now.
+
+
+def tell_time(start):
+    """Tells on a terminal for how many seconds this has been going on."""
+    if sys.stderr.isatty():
+        print(f"\r{time.monotonic() - start:.0f} s ", end="", file=sys.stderr, flush=True)
+
+
+def try_once(folder, kept):
+    """Runs `rt try` in a crate's folder and keeps its program; answers what it said, and whether the program ran."""
+    words = (folder / "args").read_text().split() if (folder / "args").exists() else []
+    with tempfile.TemporaryDirectory(prefix="try-", dir=KEPT) as room, tempfile.TemporaryFile("w+") as said:
+        how = {"stdin": subprocess.DEVNULL, "stdout": subprocess.DEVNULL, "stderr": said}
+        environment = {**os.environ, "TMPDIR": room}
+        start = time.monotonic()
+        run = subprocess.Popen(["rt", "try", "--steps", "1", "--", *words], cwd=folder, env=environment, **how)
+        while run.poll() is None:
+            link_program(pathlib.Path(room), kept)
+            tell_time(start)
+            time.sleep(pause_of(pathlib.Path(room)))
+        if sys.stderr.isatty():
+            print("\r", end="", file=sys.stderr)
+        said.seek(0)
+        text = said.read()
+    return text, "\nrun=ended " in "\n" + text
+
+
+def build(name):
+    """The path of the program, which is built where no kept one is of the same sources."""
+    kept, stamp, total = KEPT / name, KEPT / f"{name}.sum", sum_of_sources(name)
+    if kept.exists() and stamp.exists() and stamp.read_text() == total:
+        print(f"tools/built.sh: {name} is one that was built without proof", file=sys.stderr)
+        return kept
+    KEPT.mkdir(parents=True, exist_ok=True)
+    stamp.unlink(missing_ok=True)
+    kept.unlink(missing_ok=True)
+    print(f"tools/built.sh: {name} is built without proof, which takes one to three minutes", file=sys.stderr)
+    said, ran = try_once(crates.HOME / "crates" / name, kept)
+    if not ran:
+        sys.exit(f"{said}tools/built.sh: {name} isn't built")
+    if not kept.exists():
+        kept.write_text(SCRIPT.format(folder=crates.HOME / "crates" / name))
+        kept.chmod(0o755)
+    stamp.write_text(total)
+    return kept
+
+
+if __name__ == "__main__":
+    if len(sys.argv) != 2:
+        sys.exit("usage: python3 tools/try_build.py NAME")
+    try:
+        print(build(sys.argv[1]))
+    except KeyboardInterrupt:
+        sys.exit(130)
