@@ -7,7 +7,6 @@ those of the sessions' responses, most of them with a field or some bytes change
 Each answer is the same name and value, or the same name and reason. The resources are the same at each run.
 """
 
-import importlib.util
 import pathlib
 import random
 import re
@@ -15,21 +14,10 @@ import subprocess
 import sys
 
 HERE = pathlib.Path(__file__).resolve().parent
-TOOLS = HERE.parent / "tools"
-sys.path.insert(0, str(HERE))
+sys.path[:0] = [str(HERE.parent / "tools"), str(HERE)]
 import corpus  # noqa: E402
-
-
-def tool(name, path):
-    """A module of tools/. The reference has a module wire too, so the path of modules stays as it is."""
-    spec = importlib.util.spec_from_file_location(name, TOOLS / path)
-    module = importlib.util.module_from_spec(spec)
-    spec.loader.exec_module(module)
-    return module
-
-
-spelled = tool("spelled", "wire.py")
-Reference = tool("reference", "reference.py").Reference
+import wire  # noqa: E402
+from reference import Reference  # noqa: E402
 
 KINDS = ["listener", "route", "cluster", "endpoint"]
 
@@ -121,7 +109,7 @@ def with_field(r, value):
         members[at] = number, r.choice([0, 1, 2, 3, 4, 5, 100, 65_535, 65_536, 4_294_967_294, 4_294_967_295])
     else:
         members[at] = number, r.choice([b"", b"*", b"a*b", b"a(", b"10.0.0.1", b"::1", b"a", b"xdstp://a/b/c?z=1&y=2", b"web"])
-    return b"".join(spelled.delimited(n, b) if isinstance(b, bytes) else spelled.number(n, b) for n, b in members)
+    return b"".join(wire.delimited(n, b) if isinstance(b, bytes) else wire.number(n, b) for n, b in members)
 
 
 def some_resources(reference, count):

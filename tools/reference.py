@@ -8,15 +8,27 @@ import sys
 WHOLE = 13
 
 
+def modules_of(folder, *names):
+    """Modules of a folder. Here the same names stay those of our own modules, of which some are called the same."""
+    ours = {name: sys.modules.pop(name) for name in names if name in sys.modules}
+    sys.path.insert(0, str(pathlib.Path(folder).resolve()))
+    try:
+        return [importlib.import_module(name) for name in names]
+    finally:
+        sys.path.pop(0)
+        for name in names:
+            sys.modules.pop(name, None)
+        sys.modules.update(ours)
+
+
 class Reference:
     """The reference program in a folder."""
 
     def __init__(self, folder):
         sys.dont_write_bytecode = True
         sys.setrecursionlimit(10_000)
-        sys.path.insert(0, str(pathlib.Path(folder).resolve()))
-        check, fuzz, history, patterns, play, report, session, wire = map(
-            importlib.import_module, ("check", "fuzz", "history", "patterns", "play", "report", "session", "wire"))
+        check, fuzz, history, patterns, play, report, session, wire = modules_of(
+            folder, "check", "fuzz", "history", "patterns", "play", "report", "session", "wire")
         self.check, self.Asked = check.check, patterns.Asked
         self.URLS, self.Unreadable, self.read = wire.URLS, wire.Unreadable, wire.read
         self.read_session, self.SessionFault, self.room = session.read_session, session.SessionFault, session.room
