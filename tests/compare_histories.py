@@ -3,19 +3,21 @@ ones, and with those of a reference program.
 
 PROGRAM is xds_replay, which is called with the word `run`. It plays the 400 sessions of the corpus. REFERENCE is the
 folder of a reference, which plays sessions and makes random ones: COUNT random sessions (10,000 if none is given) of at
-most MOST lines (60 if none is given), those from number FIRST on, and the worked sessions of the folder `rows` beside the
-reference, are played by both. Each report is the same byte for byte, or the first fault and its line are. A worked session
-with a report of its own (`.expected`, and no `.stage`, which marks a report of a part of the program) is compared with that
-report too.
+most MOST lines (60 if none is given), those from number FIRST on, each fifth one of them once more with some damage, and
+the worked sessions of the folder `rows` beside the reference, are played by both. Each report is the same byte for byte,
+or the first fault and its line are. A worked session with a report of its own (`.expected`, and no `.stage`, which marks a
+report of a part of the program) is compared with that report too.
 """
 
 import pathlib
+import random
 import subprocess
 import sys
 
 HERE = pathlib.Path(__file__).resolve().parent
 sys.path[:0] = [str(HERE), str(HERE.parent / "tools")]
 import corpus  # noqa: E402
+import mutation  # noqa: E402
 from reference import Reference  # noqa: E402
 
 COUNT, FIRST, MOST = 10_000, 1, 60
@@ -29,7 +31,17 @@ def random_sessions(reference, count, first, most):
         if text.count(b"\n") <= most:
             count -= 1
             yield f"session {number}", text
+            if number % 5 == 0:
+                yield f"session {number} with damage", damaged(number, text)
         number += 1
+
+
+def damaged(number, text):
+    """A session with one to three kinds of damage."""
+    damage = mutation.Damage(random.Random(f"history {number}"))
+    for _ in range(damage.r.choice([1, 1, 1, 2, 3])):
+        text = damage.of_session(text)
+    return text
 
 
 def worked_sessions(folder):
@@ -97,12 +109,14 @@ def compare_with(folder, program, choice, comparison):
         own = own_report(rows, name)
         if own is not None and not got.startswith("session line"):
             comparison.compare(f"{name}.expected", got, own)
-    worked, entries = comparison.equal + comparison.bad - before, 0
+    worked, entries, faults = comparison.equal + comparison.bad - before, 0, 0
     for name, text in random_sessions(reference, *choice):
         wanted = reference.whole_report(text)
         entries += wanted.count("\n")
+        faults += wanted.startswith("session line")
         comparison.compare(name, told(program, text), wanted)
-    print(f"{worked} comparisons of worked sessions, {choice[0]} random sessions with {entries} lines of reports")
+    randoms = comparison.equal + comparison.bad - before - worked
+    print(f"{worked} comparisons of worked sessions, {randoms} random sessions with {entries} lines of reports, {faults} faults")
 
 
 def main():
