@@ -124,13 +124,13 @@ listed_at ps refs x are is call pin has same = alike_at ps x (pinned ps call) pi
 -- ---- the latest snapshot
 
 -- what is kept of the latest snapshot, as it is in the history
-latest_at : (ps : List Page) (refs : References) (tickets : List (Where Snapshot)) (l : Latest) → AreRefsAt ps refs → latest ps ≡ Some l.ticket.value → IsTicketAt tickets l.number l.ticket → l.number ≡ l.ticket.value.number → l.names ≡ names_in l.ticket.value →
+latest_at : (ps : List Page) (refs : References) (tickets : List (Where Snapshot)) (l : Latest) → AreRefsAt ps refs → latest ps ≡ Some l.ticket.value → IsTicketAt tickets l.number l.ticket → l.number ≡ l.ticket.value.number → IfSome l.names (λ (names : List Name). names ≡ names_in l.ticket.value) →
     IsLatestOf tickets refs l
 latest_at ps refs tickets l are is own numbered named = record {
   own = own;
   number_is = numbered;
   names_are = named;
-  listed = subst (λ n. IsListOf refs n l.names) (sym numbered) (subst (λ (ns : List Name). IsListOf refs l.ticket.value.number ns) (sym named) (listed_at ps refs l.ticket.value are is));
+  listed = subst (λ n. IsListOf refs n (names_in l.ticket.value)) (sym numbered) (listed_at ps refs l.ticket.value are is);
 }
 
 -- it stays so for other pins and holds of the history
@@ -142,7 +142,7 @@ latest_with ps old refs tickets (Some l) are is kept = latest_at ps refs tickets
 
 pub calls_with_one : (archive : Shelves) (s : Setting) (past : List Entry) (actor line : ℕ) (event : DriverEvent) (reply : DriverReply) (c : Calls) (ticket : Where Snapshot) (tickets : List (Where Snapshot)) (l : Latest) →
     Right s (driven actor line event reply ∷ past) → (page_of s (driven actor line event reply) (What.Driver event reply) past (pages s past)).snapshot ≡ Some ticket.value → IsTicketOf archive ticket →
-    tickets ≡ c.tickets ++ ticket ∷ [] → l.ticket ≡ ticket → l.number ≡ ticket.value.number → l.names ≡ names_in ticket.value → AreCallsAt archive (pages s past) c →
+    tickets ≡ c.tickets ++ ticket ∷ [] → l.ticket ≡ ticket → l.number ≡ ticket.value.number → l.names ≡ None → AreCallsAt archive (pages s past) c →
     AreCallsAt archive (pages s (driven actor line event reply ∷ past)) (record { alloc = c.alloc; refs = c.refs; pins = c.pins; tickets = tickets; latest = Some l; may_differ = c.may_differ })
 calls_with_one archive s past actor line event reply c ticket tickets l right made of grown own numbered named kept =
     let p = page_at s past actor line event reply in
@@ -159,7 +159,7 @@ calls_with_one archive s past actor line event reply c ticket tickets l right ma
         tickets = subst (λ ts. AreTicketsOf archive ts) (sym grown) (All-push (λ (t : Where Snapshot). IsTicketOf archive t) c.tickets ticket kept.own.tickets of);
         pins = λ id pin is. ap (λ ts. slice_get ts (pin.number - 1)) grown ∙ get_more c.tickets (ticket ∷ []) (pin.number - 1) pin.ticket (kept.own.pins id pin is);
         latest = latest_at (p ∷ ps) c.refs tickets l refs (now ∙ ap (λ x. Some x) (sym value)) (ap (λ ts. slice_get ts (l.number - 1)) grown ∙ push_here c.tickets ticket (l.number - 1) place ∙ ap (λ t. Some t) (sym own))
-            (numbered ∙ ap (λ (x : Snapshot). x.number) (sym value)) (named ∙ ap names_in (sym value));
+            (numbered ∙ ap (λ (x : Snapshot). x.number) (sym value)) (subst (λ (o : Option (List Name)). IfSome o (λ names. names ≡ names_in l.ticket.value)) (sym named) tt);
       };
       refs_are = refs;
       numbers_are = kept.numbers_are;
@@ -197,11 +197,11 @@ apart_by true own id new o hold n test none other is = ap hold (sym (same_id own
 apart_by false own id new o hold n test none other is = other is
 
 -- a pin of the latest snapshot
-pub calls_pinned : (archive : Shelves) (s : Setting) (past : List Entry) (actor line : ℕ) (call : Call) (reply : CallerReply) (c : Calls) (l : Latest) (refs : References) (pins : BTreeMap CallId Pinning) (pin : Pinning) →
+pub calls_pinned : (archive : Shelves) (s : Setting) (past : List Entry) (actor line : ℕ) (call : Call) (reply : CallerReply) (c : Calls) (l : Latest) (names : List Name) (refs : References) (pins : BTreeMap CallId Pinning) (pin : Pinning) →
     Right s past → pinned (pages s past) call.id ≡ None → held (pages s past) call.id ≡ None → reply ≡ caller_reply (pages s past) (CallerEvent.Pin call) → c.latest ≡ Some l → pin ≡ record { number = l.number; ticket = l.ticket } →
-    SetsPin c.refs refs call.id (Some (record { number = l.number; names = l.names })) → ((other : CallId) → lookup (is_call other) pins.entries ≡ (if is_call call.id other then Some pin else lookup (is_call other) c.pins.entries)) →
+    names ≡ names_in l.ticket.value → SetsPin c.refs refs call.id (Some (record { number = l.number; names = names })) → ((other : CallId) → lookup (is_call other) pins.entries ≡ (if is_call call.id other then Some pin else lookup (is_call other) c.pins.entries)) →
     AreCallsAt archive (pages s past) c → AreCallsAt archive (pages s (called actor line (CallerEvent.Pin call) reply ∷ past)) (calls_with c refs pins true)
-calls_pinned archive s past actor line call reply c l refs pins pin right none holds_none answers is made set updates kept =
+calls_pinned archive s past actor line call reply c l names refs pins pin right none holds_none answers is made named set updates kept =
     subst (λ r. AreCallsAt archive (pages s (called actor line (CallerEvent.Pin call) r ∷ past)) (calls_with c refs pins true)) (sym (answers ∙ ap pin_reply number)) whole
   where
     ps : List Page
@@ -222,7 +222,7 @@ calls_pinned archive s past actor line call reply c l refs pins pin right none h
     refs_now : AreRefsAt (caller_page (called actor line (CallerEvent.Pin call) (CallerReply.Pinned l.ticket.value.number)) past (pages s past) ∷ pages s past) refs
     refs_now = refs_pinned (pages s past) past actor line call l.ticket.value c.refs refs now kept.refs_are
         (subst (λ n. SetsPin c.refs refs call.id (Some (record { number = n; names = names_in l.ticket.value }))) own_latest.number_is
-        (subst (λ (ns : List Name). SetsPin c.refs refs call.id (Some (record { number = l.number; names = ns }))) own_latest.names_are set))
+        (subst (λ (ns : List Name). SetsPin c.refs refs call.id (Some (record { number = l.number; names = ns }))) named set))
 
     whole : AreCallsAt archive (pages s (called actor line (CallerEvent.Pin call) (CallerReply.Pinned l.ticket.value.number) ∷ past)) (calls_with c refs pins true)
     whole = record {
@@ -243,6 +243,12 @@ calls_pinned archive s past actor line call reply c l refs pins pin right none h
           (pinned_after_pin (pages s past) past actor line call (Some l.ticket.value.number) id ∙ has);
       seen = λ same. absurd (cc same);
     }
+
+-- the names that are handed in are those of the latest snapshot
+pub named_by : (names : Option (List Name)) (o : Option Latest) (l : Latest) (ns : List Name) → names ≡ option_map (λ (m : Latest). names_in m.ticket.value) o → o ≡ Some l → names ≡ Some ns → ns ≡ names_in l.ticket.value
+named_by names o l ns are is named =
+    let same : Some ns ≡ Some (names_in l.ticket.value) = sym named ∙ are ∙ ap (option_map (λ (m : Latest). names_in m.ticket.value)) is in
+    cc same
 
 -- nothing is pinned for want of memory
 pub calls_unpinned : (archive : Shelves) (ps : List Page) (c : Calls) (id : CallId) (refs : References) (pins : BTreeMap CallId Pinning) → pinned ps id ≡ None → SetsPin c.refs refs id None → pins.entries ≡ c.pins.entries →

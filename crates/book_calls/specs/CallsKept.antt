@@ -23,13 +23,13 @@ use Rattle.book_calls.specs.RefsKept.{AreRefsAt}
 abbrev pub IsTicketAt : List (Where Snapshot) → ℕ → Where Snapshot → Type 0
 IsTicketAt tickets number ticket = slice_get tickets (number - 1) ≡ Some ticket
 
--- what is kept of the latest snapshot: its number, its own ticket and the clusters that its host names, which all pins of it
--- have
+-- what is kept of the latest snapshot: its number, its own ticket and, from its first pin on, the clusters that its host names,
+-- which all pins of it have
 pub record IsLatestOf (tickets : List (Where Snapshot)) (refs : References) (l : Latest) : Type 0 where
   pub own : IsTicketAt tickets l.number l.ticket
   pub number_is : l.number ≡ l.ticket.value.number
-  pub names_are : l.names ≡ names_in l.ticket.value
-  pub listed : IsListOf refs l.number l.names
+  pub names_are : IfSome l.names (λ names. names ≡ names_in l.ticket.value)
+  pub listed : IsListOf refs l.number (names_in l.ticket.value)
 
 -- the tickets are of this archive, and a pin has the one of its number
 pub record AreOwn (archive : Shelves) (c : Calls) : Type 0 where

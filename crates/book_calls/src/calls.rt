@@ -12,13 +12,13 @@ ghost use Rattle.call_journal.specs.declared.reply.DriverReply.{DriverReply};
 ghost use Rattle.xds_history.specs.Setting.{Setting};
 ghost use Rattle.xds_history.specs.declared.page.Page.{Page};
 ghost use Rattle.xds_history.specs.Page.{latest, latest_number};
-ghost use Rattle.xds_history.specs.References.{held, pinned, references, references_seen, snapshot_at, snapshots_of};
+ghost use Rattle.xds_history.specs.References.{held, names_in, pinned, references, references_seen, snapshot_at, snapshots_of};
 ghost use Rattle.xds_history.specs.Pages.{called, driven, page_of, pages};
 ghost use Rattle.xds_history.specs.Right.{Right, caller_reply, commit_reply, pin_reply};
 ghost use Rattle.book_calls.specs.CallsKept.{AreCallsAt, AreOwn, IsLatestOf, IsRouted, IsTicketAt};
 
 use crate::host_clusters::routed_to;
-use crate::latest_snapshot::{Latest, latest_of};
+use crate::latest_snapshot::{Latest, latest_of, names_of};
 use crate::pinning::{Pinning, end_pinning, pinning_of, set_pinning};
 use crate::ref_steps::{end_hold, set_hold, set_pin};
 use call_journal::CallerReply;
@@ -28,7 +28,7 @@ use route_match::RouteAnswer;
 use snapshot_store::{Archive, Ticket};
 use std::alloc::Global;
 use std::collections::BTreeMap;
-use xc_base::{Call, CallId, List, Memory, Text};
+use xc_base::{Call, CallId, List, Memory, Shared, Text};
 
 /// What is kept of calls.
 #[derive(Drop)]
@@ -62,10 +62,36 @@ impl Calls {
         }
     }
 
-    /// A call pins the latest snapshot, where one was published. It fails for want of memory alone, and then what is kept is
-    /// kept still.
-    pub fn pin(&mut self, call: &Call) -> Result<Option<Pinning>, Memory>
+    /// The clusters that the host of the latest snapshot names, which are kept from then on. There are none where no snapshot was
+    /// published.
+    fn latest_names(
+        &mut self,
+        archive: &Archive<Snapshot>,
+    ) -> Result<Option<Shared<List<Text>>>, Memory>
+        requires own { AreOwn archive.now self.old }
+        ensures names { IfOk result (λ names. names ≡ option_map (λ l. names_in l.ticket.value) self.old.latest) }
+        ensures own { AreOwn archive.now self.new }
+        ensures kept { (ps : List Page) → AreCallsAt archive.now ps self.old → AreCallsAt archive.now ps self.new }
+        ensures tickets { self.new.tickets ≡ self.old.tickets }
+        ensures latest { option_map (λ l. l.ticket.value) self.new.latest ≡ option_map (λ l. l.ticket.value) self.old.latest }
+    {
+        let Some(latest) = &mut self.latest else {
+            return Ok(None);
+        };
+        let names = names_of(self.alloc, archive, latest)?;
+        latest.names = Some(names.share()?);
+        Ok(Some(names))
+    }
+
+    /// A call pins the latest snapshot, where one was published, whose host names these clusters. It fails for want of memory
+    /// alone, and then what is kept is kept still.
+    fn pin_latest(
+        &mut self,
+        call: &Call,
+        names: Option<Shared<List<Text>>>,
+    ) -> Result<Option<Pinning>, Memory>
         requires latest { IfSome self.old.latest (IsLatestOf self.old.tickets self.old.refs) }
+        requires names { names ≡ option_map (λ l. names_in l.ticket.value) self.old.latest }
         ensures reply { IfOk result (λ pin. (archive : Shelves) (ps : List Page) → AreCallsAt archive ps self.old → pin_reply (option_map (λ p. p.number) pin) ≡ caller_reply ps (Asking.Pin call.now)) }
         ensures reads { IfOk result (λ pin. (archive : Shelves) (ps : List Page) → AreCallsAt archive ps self.old → option_map (λ p. p.ticket.value) pin ≡ latest ps) }
         ensures ticket { IfOk result (λ pin. IfSome pin (λ p. (archive : Shelves) (ps : List Page) → AreCallsAt archive ps self.old → IsTicketOf archive p.ticket)) }
@@ -75,13 +101,13 @@ impl Calls {
         ensures tickets { self.new.tickets ≡ self.old.tickets }
         ensures err { OnErr result ((archive : Shelves) (ps : List Page) → pinned ps call.now.id ≡ None → AreCallsAt archive ps self.old → AreCallsAt archive ps self.new) }
     {
-        let Some(latest) = &self.latest else {
+        let (Some(latest), Some(names)) = (&self.latest, &names) else {
             self.may_differ = true;
             return Ok(None);
         };
         let kept = pinning_of(latest.number, &latest.ticket)?;
         let given = pinning_of(latest.number, &latest.ticket)?;
-        set_pin(&mut self.refs, call.id, latest.number, &latest.names)?;
+        set_pin(&mut self.refs, call.id, latest.number, names)?;
         match set_pinning(&mut self.pins, call.id, kept) {
             Ok(()) => {
                 self.may_differ = true;
@@ -92,6 +118,28 @@ impl Calls {
                 Err(fault)
             }
         }
+    }
+
+    /// A call pins the latest snapshot, where one was published. It fails for want of memory alone, and then what is kept is
+    /// kept still.
+    pub fn pin(
+        &mut self,
+        archive: &Archive<Snapshot>,
+        call: &Call,
+    ) -> Result<Option<Pinning>, Memory>
+        requires own { AreOwn archive.now self.old }
+        ensures reply { IfOk result (λ pin. (ps : List Page) → AreCallsAt archive.now ps self.old → pin_reply (option_map (λ p. p.number) pin) ≡ caller_reply ps (Asking.Pin call.now)) }
+        ensures reads { IfOk result (λ pin. (ps : List Page) → AreCallsAt archive.now ps self.old → option_map (λ p. p.ticket.value) pin ≡ latest ps) }
+        ensures ticket { IfOk result (λ pin. IfSome pin (λ p. (ps : List Page) → AreCallsAt archive.now ps self.old → IsTicketOf archive.now p.ticket)) }
+        ensures own { IfOk result (λ pin. IfSome pin (λ p. IsTicketAt self.old.tickets p.number p.ticket)) }
+        ensures kept { OnOk result ((s : Setting) (past : List EntryValue) (actor line : ℕ) (reply : Reply) → Right s past → pinned (pages s past) call.now.id ≡ None → held (pages s past) call.now.id ≡ None →
+            reply ≡ caller_reply (pages s past) (Asking.Pin call.now) → AreCallsAt archive.now (pages s past) self.old → AreCallsAt archive.now (pages s (called actor line (Asking.Pin call.now) reply ∷ past)) self.new) }
+        ensures tickets { self.new.tickets ≡ self.old.tickets }
+        ensures err { OnErr result ((ps : List Page) → pinned ps call.now.id ≡ None → AreCallsAt archive.now ps self.old → AreCallsAt archive.now ps self.new) }
+    {
+        let names = self.latest_names(archive)?;
+        let pin = self.pin_latest(call, names)?;
+        Ok(pin)
     }
 
     /// The call's open pin, if there is one. It takes no memory.
@@ -212,7 +260,7 @@ impl Calls {
         ensures tickets { OnOk result (self.new.tickets ≡ self.old.tickets ++ ticket ∷ []) }
         ensures err { OnErr result (self.new ≡ self.old) }
     {
-        let latest = latest_of(self.alloc, archive, &ticket)?;
+        let latest = latest_of(archive, &ticket)?;
         self.tickets.push(ticket)?;
         self.latest = Some(latest);
         Ok(())

@@ -1,5 +1,5 @@
 //! What is kept of the snapshot that was published last.
-ghost use Rattle.std.specs.Prelude.{◌≡◌, IfOk};
+ghost use Rattle.std.specs.Prelude.{◌≡◌, IfOk, IfSome, None};
 ghost use Rattle.snapshot_store.specs.Tickets.{IsTicketOf};
 ghost use Rattle.xds_history.specs.References.{names_in};
 
@@ -16,26 +16,40 @@ pub struct Latest {
     pub number: u32,
     /// Its ticket.
     pub ticket: Ticket<Snapshot>,
-    /// The clusters that its host names, which all its pins share.
-    pub names: Shared<List<Text>>,
+    /// The clusters that its host names, which all its pins share. They are there from its first pin on.
+    pub names: Option<Shared<List<Text>>>,
 }
 
 /// What is kept of the snapshot of a ticket.
 pub(crate) fn latest_of(
-    alloc: Global,
     archive: &Archive<Snapshot>,
     ticket: &Ticket<Snapshot>,
 ) -> Result<Latest, Memory>
     requires { IsTicketOf archive.now ticket.now }
     ensures ticket { IfOk result (λ l. l.ticket ≡ ticket.now) }
     ensures number { IfOk result (λ l. l.number ≡ ticket.now.value.number) }
-    ensures names { IfOk result (λ l. l.names ≡ names_in ticket.now.value) }
+    ensures names { IfOk result (λ l. l.names ≡ None) }
 {
-    let snapshot = archive.read(ticket);
-    let names = names_in(alloc, snapshot)?;
     Ok(Latest {
-        number: snapshot.number,
+        number: archive.read(ticket).number,
         ticket: ticket.copy()?,
-        names: Shared::new(alloc, names)?,
+        names: None,
     })
+}
+
+/// The clusters that the host of the latest snapshot names. They are made where they aren't there yet.
+pub(crate) fn names_of(
+    alloc: Global,
+    archive: &Archive<Snapshot>,
+    latest: &Latest,
+) -> Result<Shared<List<Text>>, Memory>
+    requires ticket { IsTicketOf archive.now latest.now.ticket }
+    requires names { IfSome latest.now.names (λ names. names ≡ names_in latest.now.ticket.value) }
+    ensures { IfOk result (λ names. names ≡ names_in latest.now.ticket.value) }
+{
+    if let Some(names) = &latest.names {
+        return names.share();
+    }
+    let names = names_in(alloc, archive.read(&latest.ticket))?;
+    Ok(Shared::new(alloc, names)?)
 }

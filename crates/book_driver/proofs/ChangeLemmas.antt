@@ -1,25 +1,23 @@
 -- Of which watched keys something else may be known after an event.
-use Rattle.std.proofs.Common.{◌≡◌, Bool, true, false, ◌||◌, Option, Some, None, Result, List, [], ◌∷◌, refl, sym, ap, ◌∙◌, subst, is_some, option_map}
+use Rattle.std.proofs.Common.{◌≡◌, Bool, true, false, ◌||◌, Option, Some, None, List, [], ◌∷◌, refl, sym, ap, ◌∙◌, is_some, option_map}
 use Rattle.std.specs.Prelude.{◌&&◌, filter, if◌then◌else◌, IsSome, not}
 use Rattle.std.specs.List.{find, list_all}
 use Rattle.std.specs.Option.{option_or}
 use Rattle.std.proofs.lemmas.Bool.{true≢false}
 use Rattle.xc_base.specs.declared.names.Key.{Key}
-use Rattle.xc_base.specs.declared.reason.Reason.{Reason}
 use Rattle.xc_keys.specs.Keys.{is_key}
 use Rattle.xc_keys.proofs.KeyLemmas.{same_key}
-use Rattle.xds_config.specs.declared.value.Value.{Value}
 use Rattle.xds_cache.specs.declared.fate.Known.{Known}
 use Rattle.xds_cache.specs.KeptFates.{Watched as Rows, known_of}
 use Rattle.resource_check.specs.declared.delivery.Delivery.{Delivery}
 use Rattle.config_assembly.specs.Watching.{has_key}
 use Rattle.dep_manager.specs.KeptAssemblies.{AreChanges}
 use Rattle.xds_history.specs.Words.{same_kind, lives_at}
-use Rattle.xds_history.specs.Responses.{delivers, is_named}
+use Rattle.xds_history.specs.Responses.{is_named}
 use Rattle.xds_history.specs.Fates.{deletes, has_another_name, has_value, lacks, mark_of}
 use Rattle.xds_history.specs.declared.page.Mark.{Mark}
 use Rattle.xds_history.specs.declared.responses.Told.{Told}
-use Rattle.book_fates.specs.FateSteps.{Stepped, WatchesOnly, after_marks, brings, is_let_go, is_touched, out_among, told_step}
+use Rattle.book_fates.specs.FateSteps.{Stepped, WatchesOnly, after_marks, is_touched, out_among, told_step}
 
 -- ---- by what an event makes of each key
 

@@ -1,6 +1,7 @@
 -- What is kept of streams and watched keys, through an entry.
 use Rattle.std.proofs.Common.{◌≡◌, ℕ, List, [], ◌∷◌, map, Option, Some, None, refl, sym, ap, ap₂, ◌∙◌, subst}
-use Rattle.std.specs.Prelude.{◌↔◌, IsNone, IsSome}
+use Rattle.std.specs.Prelude.{◌↔◌, ◌||◌, Bool, true, false, IsNone, IsSome, is_some, if◌then◌else◌}
+use Rattle.std.specs.List.{find}
 use Rattle.std.specs.Option.{option_or}
 use Rattle.xc_base.specs.declared.names.Home.{Home}
 use Rattle.xc_base.specs.declared.names.Key.{Key}
@@ -12,7 +13,7 @@ use Rattle.call_journal.specs.declared.reply.Sent.{Sent}
 use Rattle.call_journal.specs.declared.entry.What.{What}
 use Rattle.call_journal.specs.declared.entry.Entry.{Entry}
 use Rattle.config_assembly.specs.Orders.{Name}
-use Rattle.config_assembly.specs.Watching.{IsWatching}
+use Rattle.config_assembly.specs.Watching.{IsWatching, has_key}
 use Rattle.dep_manager.specs.KeptAssemblies.{IsRightBy}
 use Rattle.xds_history.specs.Setting.{Setting, setting_of}
 use Rattle.xds_history.specs.Responses.{Came}
@@ -26,8 +27,12 @@ use Rattle.xds_history.specs.Fates.{marked, watch, with_mark}
 use Rattle.book_streams.specs.StreamsKept.{states_of, states_with, watched_keys}
 use Rattle.book_fates.specs.declared.timed_fates.Fates.{Fates}
 use Rattle.book_fates.specs.FateSteps.{Knows, WatchesOnly}
-use Rattle.book_fates.specs.Timing.{AreAskedBy, TurnsAt, timed_at}
-use Rattle.xds_cache.specs.KeptFates.{known_of}
+use Rattle.book_fates.specs.Timing.{AreAskedBy, NoneWanted, StoppedBy, TurnsAt, timed_at, unreached_among}
+use Rattle.xc_keys.specs.Keys.{is_key}
+use Rattle.xc_keys.proofs.KeyLemmas.{same_key}
+use Rattle.xds_cache.specs.declared.fate.Known.{Known}
+use Rattle.xds_cache.specs.KeptFates.{Watched as Rows, fate_at, fate_of, known_of, watched}
+use Rattle.config_assembly.specs.Reach.{is_wanted, missing}
 use Rattle.watch_timers.specs.Timers.{started_at}
 use Rattle.book_fates.specs.FatesKept.{IsKeptAt, IsMarkedAt, keys_in, turned_by}
 use Rattle.book_fates.proofs.KeptLemmas.{has_kept, kept_only, keys_watched}
@@ -83,6 +88,38 @@ reached_by s past c now reached old new by boot streams timers before target key
       right = right;
     }
 
+-- where none of the reached keys is awaited, none is wanted once they are watched
+unfound_next : (p : Key → Bool) (x : Key) (keys : List Key) (key : Key) (b e : Bool) → p x ≡ b → is_key key x ≡ e → (find p keys ≡ None → has_key keys key ≡ true → p key ≡ false) → (if b then Some x else find p keys) ≡ None → (e || has_key keys key) ≡ true → p key ≡ false
+unfound_next p x keys key true e is same later none has = absurd (cc none)
+unfound_next p x keys key false true is same later none has = ap p (same_key key x same) ∙ is
+unfound_next p x keys key false false is same later none has = later none has
+
+unfound : (p : Key → Bool) (keys : List Key) (key : Key) → find p keys ≡ None → has_key keys key ≡ true → p key ≡ false
+unfound p [] key none has = absurd (cc has)
+unfound p (x ∷ keys) key none has = unfound_next p x keys key (p x) (is_key key x) refl refl (unfound p keys key) none has
+
+still_known : (old new : Rows) (keys : List Key) (key : Key) (home : Home) → known_of new key ≡ (if has_key keys key then watched (known_of old key) else None) → has_key keys key ≡ true → fate_at home (known_of new key) ≡ fate_at home (known_of old key)
+still_known old new keys key home is has =
+    ap (fate_at home) (is ∙ ap (λ b. if b then watched (known_of old key) else None) has) ∙ watched_at home (known_of old key)
+  where
+    watched_at : (home : Home) (o : Option Known) → fate_at home (watched o) ≡ fate_at home o
+    watched_at (Home.At a) None = refl
+    watched_at (Home.At a) (Some known) = refl
+    watched_at (Home.Nowhere fault) o = refl
+
+pub none_there : (least : Option Key) → is_some least ≡ false → IsNone least
+none_there None is = refl
+none_there (Some key) is = absurd (cc is)
+
+pub none_wanted : (old new : Rows) (reached : List Key) (least : Option Key) → least ≡ missing (fate_of old) reached → IsWatching old new reached → IsNone least → NoneWanted new reached
+none_wanted old new reached least is watching none key has =
+    ap is_wanted (still_known old new reached key key.home (watching key) has)
+    ∙ unfound (λ key. is_wanted (fate_of old key)) reached key (sym is ∙ none_is least none) has
+  where
+    none_is : (o : Option Key) → IsNone o → o ≡ None
+    none_is None none = refl
+    none_is (Some key) none = absurd (cc none)
+
 -- a configuration is made exactly where no key is awaited
 made_is : (least : Option Key) (made before : Option Config) → (IsSome made ↔ IsNone least) → made_or least made before ≡ option_or made before
 made_is None None before whole = absurd (cc (whole.1 refl))
@@ -108,6 +145,11 @@ assembly_by s past c now names w reached least made by timely is whole =
 
 pub keys_by : (s : Setting) (c : Came) (past : List Entry) (a : Assembly) (reached : List Key) → a.reached ≡ reached → reached ≡ watched_keys (watched_by s c past (pages s past) a)
 keys_by s c past a reached is = sym is ∙ sym (keys_watched (marks_with s c past (pages s past)) a.reached)
+
+-- the timers of what is no longer reached ended
+pub left_by : (marks old new : Fates) (reached : List Key) → old.timers ≡ marks.timers → old.reached ≡ marks.reached → StoppedBy old.timers new.timers (unreached_among old.reached reached) → StoppedBy marks.timers new.timers (unreached_among marks.reached reached)
+left_by marks old new reached timers keys stopping =
+    subst (λ ts. StoppedBy ts new.timers (unreached_among marks.reached reached)) timers (subst (λ ks. StoppedBy old.timers new.timers (unreached_among ks reached)) keys stopping)
 
 pub settles : (s : Setting) (past : List Entry) (line : ℕ) (event : DriverEvent) (reply : DriverReply) (now : Time) (a : Assembly) (reached : List Key) (sent : List Sent) (old : Watcher) (f : Fates) →
     IsReachedBy s past (came event reply) now reached old → IsAssembly s (came event reply) past (pages s past) a → a.reached ≡ reached → now ≡ (present_after past event).now → reply.sent ≡ sent →

@@ -58,12 +58,19 @@ pub struct Published {
     pub is_new: bool,
 }
 
+/// Whether two configurations are the same. Clusters differ more often than fronts, so they are looked at first.
+fn are_same(config: &Config, other: &Config) -> bool
+    ensures { IsTrue result ↔ (config.now ≡ other.now) }
+{
+    config.clusters.same(&other.clusters) && config.front.same(&other.front)
+}
+
 /// Whether the configuration is the one that stands.
 fn stands(config: &Option<Shared<Config>>, new: &Shared<Config>) -> bool
     ensures { IsTrue result ↔ (config.now ≡ Some new.now) }
 {
     match config {
-        Some(config) => config.same(new),
+        Some(config) => are_same(config.get(), new.get()),
         None => false,
     }
 }

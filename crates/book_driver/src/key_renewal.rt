@@ -103,7 +103,7 @@ impl Watcher {
     {
         let heard = self.take_in(event, prepared, now, steps)?;
         let outcome = self.assemble(&heard.changed, references, steps)?;
-        let sent = self.ask(outcome.reached, now, steps)?;
+        let sent = self.ask(outcome.reached, &outcome.missing, now, steps)?;
         Ok(Renewal {
             verdict: heard.verdict,
             refused: heard.refused,

@@ -7,7 +7,6 @@ pub mod channel_driver;
 pub mod configured_trees;
 pub mod driver_laws;
 pub mod key_renewal;
-pub mod key_set;
 pub mod marking;
 pub mod subscriptions;
 pub mod watcher;

@@ -2,22 +2,20 @@
 ghost use Rattle.std.specs.Prelude.{◌≡◌, ◌≤◌, ◌↔◌, [], ◌∷◌, ℕ, List, length, IfOk, IfSome, IsNone, IsSome};
 ghost use Rattle.xc_base.specs.declared.names.Kind.TheVariants.{Listener as ListenerKind};
 ghost use Rattle.xc_base.specs.declared.names.Time.{Time as TimeValue};
-ghost use Rattle.xc_keys.specs.Keys.{key_cmp};
 ghost use Rattle.xds_config.specs.Configs.{IsLawfulConfig};
 ghost use Rattle.call_journal.specs.declared.event.DriverEvent.{DriverEvent as EventValue};
 ghost use Rattle.call_journal.specs.declared.reply.DriverReply.{DriverReply};
 ghost use Rattle.call_journal.specs.declared.entry.Entry.{Entry as EntryValue};
-ghost use Rattle.config_assembly.specs.Orders.{sorted};
 ghost use Rattle.xds_history.specs.Setting.{Setting, setting_of};
 ghost use Rattle.xds_history.specs.Responses.{Came};
 ghost use Rattle.xds_history.specs.Requests.{requests};
 ghost use Rattle.xds_history.specs.Pages.{came, driven, pages, present_after};
 ghost use Rattle.dep_manager.specs.KeptAssemblies.{HaveChanged};
 ghost use Rattle.book_fates.specs.FateSteps.{WatchesOnly};
+ghost use Rattle.book_fates.specs.Timing.{NoneWanted};
 ghost use Rattle.driver_step.specs.DriverSteps.{Assembly, IsAssembly, watched_by};
 ghost use Rattle.book_driver.specs.WatcherKept.{IsHeardBy, IsReachedBy, IsTimely, IsWatcherAt, assembly_with};
 
-use crate::key_set::key_set;
 use book_fates::Fates;
 use book_streams::Streams;
 use call_journal::Sent;
@@ -81,7 +79,7 @@ impl Watcher {
         requires changed { HaveChanged self.old.boot.authorities self.old.deps self.old.fates.cache changed.now }
         ensures reached { IfOk result (λ o. (s : Setting) (past : List EntryValue) (c : Came) (now : TimeValue) → IsHeardBy s past c now self.old → IsReachedBy s past c now o.reached self.new) }
         ensures assembly { IfOk result (λ o. (s : Setting) (past : List EntryValue) (c : Came) (now : TimeValue) → IsHeardBy s past c now self.old → IsTimely s past c.event now references.now → IsAssembly s c past (pages s past) (assembly_with s past o.reached o.missing o.config)) }
-        ensures order { IfOk result (λ o. sorted key_cmp o.reached ≡ o.reached) }
+        ensures known { IfOk result (λ o. IsNone o.missing → NoneWanted self.new.fates.cache o.reached) }
         ensures whole { IfOk result (λ o. IsSome o.config ↔ IsNone o.missing) }
         ensures lawful { IfOk result (λ o. IfSome o.config IsLawfulConfig) }
     {
@@ -96,22 +94,23 @@ impl Watcher {
         Ok(outcome)
     }
 
-    /// Asks for what is reached: the requests that are due, once something came. Timers end and start by them. It fails for
-    /// want of memory alone, and then nothing is said of what is kept.
+    /// Asks for what is reached, of which this is the least key that is awaited: the requests that are due, once something
+    /// came. Timers end and start by them. It fails for want of memory alone, and then nothing is said of what is kept.
     pub fn ask<L: Ledger>(
         &mut self,
         reached: List<Key>,
+        missing: &Option<Key>,
         now: Time,
         steps: &mut Steps<L>,
     ) -> Result<List<Sent>, Memory>
-        requires { sorted key_cmp reached ≡ reached }
+        requires { IsNone missing.now → NoneWanted self.old.fates.cache reached }
         ensures sent { IfOk result (λ sent. (s : Setting) (past : List EntryValue) (c : Came) (a : Assembly) → IsReachedBy s past c now reached self.old → a.reached ≡ reached → sent ≡ requests s c past (watched_by s c past (pages s past) a)) }
         ensures kept { IfOk result (λ sent. (s : Setting) (past : List EntryValue) (line : ℕ) (event : EventValue) (reply : DriverReply) (a : Assembly) → IsReachedBy s past (came event reply) now reached self.old → IsAssembly s (came event reply) past (pages s past) a → a.reached ≡ reached → now ≡ (present_after past event).now → reply.sent ≡ sent → IsWatcherAt s (driven 0 line event reply ∷ past) self.new) }
     {
         let sent = self.streams.names(reached.as_slice())?;
-        let set = key_set(self.alloc, reached.as_slice())?;
+        self.fates.leave(self.alloc, reached.as_slice())?;
         self.fates
-            .settle(reached, &set, sent.as_slice(), now, steps)?;
+            .settle(reached, missing.is_some(), sent.as_slice(), now, steps)?;
         Ok(sent)
     }
 }

@@ -10,7 +10,7 @@ use Rattle.xc_base.specs.declared.names.Time.{Time}
 use Rattle.xc_keys.specs.Keys.{is_key}
 use Rattle.proto_discovery.specs.declared.response.Response.{Response}
 use Rattle.xds_cache.specs.declared.fate.Known.{Known}
-use Rattle.xds_cache.specs.KeptFates.{Watched as Rows, known_of, fate_at}
+use Rattle.xds_cache.specs.KeptFates.{Watched as Rows, known_of, fate_at, fate_of}
 use Rattle.watch_timers.specs.Timers.{Running, started_at}
 use Rattle.config_assembly.specs.Orders.{Name}
 use Rattle.config_assembly.specs.Reach.{is_wanted}
@@ -28,7 +28,7 @@ use Rattle.xds_history.specs.Page.{find_watched, watched_now}
 use Rattle.xds_history.specs.Fates.{judged, first_asked, marked, watch}
 use Rattle.book_fates.specs.declared.timed_fates.Fates.{Fates}
 use Rattle.book_fates.specs.FateSteps.{Knows, Stepped, AreApart, out_among, step, brings_timed, brings, after_marks, WatchesOnly}
-use Rattle.book_fates.specs.Timing.{known_in, is_awaited, timed_at, AreTimed, Stopped, StoppedBy, StartedBy, TurnsAt, AreAskedBy, is_turned, lost_among, unreached_among, first_among}
+use Rattle.book_fates.specs.Timing.{known_in, is_awaited, timed_at, AreTimed, Stopped, StoppedBy, StartedBy, TurnsAt, AreAskedBy, is_turned, lost_among, unreached_among, first_among, NoneWanted, asks_at}
 use Rattle.book_fates.specs.FatesKept.{IsKeptAt, IsMarkedAt, keys_in, is_moment}
 use Rattle.book_fates.proofs.StepLemmas.{knows_marked, knows_watched}
 use Rattle.book_fates.proofs.PartLemmas.{apart}
@@ -153,14 +153,23 @@ marked_by s c past ps now turn old new kept same knows losing = record {
 }
 
 -- the state within an entry, with the cache as it was before what is reached was watched
-pub settled : (s : Setting) (c : Came) (past : List Entry) (ps : List Page) (p : Page) (now : Time) (turn : Option Authority) (marks old new : Fates) (mid : Running) (reached : List Key) (sent : List Sent) → IsMarkedAt s c past ps now turn marks →
-    old.timers ≡ marks.timers → old.reached ≡ marks.reached → IsWatching marks.cache old.cache reached → p.watched ≡ watch (marked s c past ps now) reached → p.now ≡ now → TurnsAt turn p → AreAskedBy sent reached past p →
-    StoppedBy old.timers mid (unreached_among old.reached reached) → StartedBy mid new.timers (first_among reached sent old.cache) now → new.cache ≡ old.cache → new.reached ≡ reached → IsKeptAt (p.entry ∷ past) (p ∷ ps) new
-settled s c past ps p now turn marks old new mid reached sent was timers_same reached_same watching watched now_is turn_is asks stopping starting cache_is reached_is = record {
+pub settled : (s : Setting) (c : Came) (past : List Entry) (ps : List Page) (p : Page) (now : Time) (turn : Option Authority) (marks old new : Fates) (reached : List Key) (sent : List Sent) → IsMarkedAt s c past ps now turn marks →
+    StoppedBy marks.timers old.timers (unreached_among marks.reached reached) → IsWatching marks.cache old.cache reached → p.watched ≡ watch (marked s c past ps now) reached → p.now ≡ now → TurnsAt turn p → AreAskedBy sent reached past p →
+    StartedBy old.timers new.timers (first_among reached sent old.cache) now → new.cache ≡ old.cache → new.reached ≡ reached → IsKeptAt (p.entry ∷ past) (p ∷ ps) new
+settled s c past ps p now turn marks old new reached sent was stopping watching watched now_is turn_is asks starting cache_is reached_is = record {
   knows = subst (λ rows. Knows rows p.watched) (sym cache_is) (subst (λ ws. Knows old.cache ws) (sym watched) (knows_watched marks.cache old.cache (marked s c past ps now) reached was.knows watching));
   keys_are = reached_is ∙ (sym (keys_watched (marked s c past ps now) reached) ∙ ap keys_in (sym watched));
-  timed = entry_timed s c past ps p now was.before marks.timers mid new.timers marks.cache old.cache marks.reached reached turn sent watched now_is was.knows watching
-      (λ key some. has_kept (watched_now ps) marks.reached key was.keys_are some) turn_is asks was.timed was.lost
-      (subst (λ ts. StoppedBy ts mid (unreached_among marks.reached reached)) timers_same (subst (λ ks. StoppedBy old.timers mid (unreached_among ks reached)) reached_same stopping))
-      starting;
+  timed = entry_timed s c past ps p now was.before marks.timers old.timers new.timers marks.cache old.cache marks.reached reached turn sent watched now_is was.knows watching
+      (λ key some. has_kept (watched_now ps) marks.reached key was.keys_are some) turn_is asks was.timed was.lost stopping starting;
 }
+
+-- ---- where there is nothing to look at
+
+-- where none of the keys is wanted, none is asked for first
+pub none_start : (timers : Running) (reached : List Key) (sent : List Sent) (rows : Rows) (now : Time) → NoneWanted rows reached → StartedBy timers timers (first_among reached sent rows) now
+none_start timers reached sent rows now none key = none_first (has_key reached key) (is_wanted (fate_of rows key)) (asks_at sent key key.home) (started_at timers key) (none key)
+  where
+    none_first : (h w a : Bool) (o : Option Time) → (h ≡ true → w ≡ false) → o ≡ (if h && (w && a) then Some (unwrap_or o now) else o)
+    none_first false w a o is = refl
+    none_first true false a o is = refl
+    none_first true true a o is = absurd (cc (is refl))

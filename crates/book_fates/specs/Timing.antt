@@ -111,6 +111,10 @@ lost_among before turn rows key = has_key before key && is_lost turn rows key
 abbrev pub unreached_among : List Key → List Key → Key → Bool
 unreached_among before reached key = has_key before key && not (has_key reached key)
 
+-- no key of a list is wanted
+abbrev pub NoneWanted : Rows → List Key → Type 0
+NoneWanted rows keys = (key : Key) → has_key keys key ≡ true → is_wanted (fate_of rows key) ≡ false
+
 -- a request of the key's kind goes to its home
 abbrev pub asks_at : List Sent → Key → Home → Bool
 asks_at sent key (Home.At a) = list_any (λ x. same_authority a x.authority && same_kind x.request.kind key.kind) sent

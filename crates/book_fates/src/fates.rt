@@ -132,8 +132,13 @@ pub fn touched_of(alloc: Global, response: &Answered, keys: &[Key]) -> Result<Li
     Ok(touched)
 }
 
-/// Lets go those of the keys that the response lacks. It takes no memory.
-fn let_go<L: Ledger>(cache: &mut Cache, response: &Answered, keys: &[Key], steps: &mut Steps<L>)
+/// Lets go those of the keys that the response lacks.
+fn let_each_go<L: Ledger>(
+    cache: &mut Cache,
+    response: &Answered,
+    keys: &[Key],
+    steps: &mut Steps<L>,
+)
     requires { AreNamesOf response.now.parts response.now.names }
     ensures { Stepped cache.old cache.new (gone_among (told_as (delivered_in response.now)) keys.now) }
 {
@@ -141,6 +146,16 @@ fn let_go<L: Ledger>(cache: &mut Cache, response: &Answered, keys: &[Key], steps
         if is_let_go(response, key, cache.get(key, steps)) {
             cache.delete(key);
         }
+    }
+}
+
+/// Lets go those of the keys that the response lacks. Where its kind deletes none it looks at no key. It takes no memory.
+fn let_go<L: Ledger>(cache: &mut Cache, response: &Answered, keys: &[Key], steps: &mut Steps<L>)
+    requires { AreNamesOf response.now.parts response.now.names }
+    ensures { Stepped cache.old cache.new (gone_among (told_as (delivered_in response.now)) keys.now) }
+{
+    if deletes(response.kind) {
+        let_each_go(cache, response, keys, steps);
     }
 }
 

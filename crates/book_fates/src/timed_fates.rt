@@ -12,7 +12,7 @@ ghost use Rattle.xds_history.specs.Fates.{marked, watch};
 ghost use Rattle.book_fates.specs.declared.timed_fates.Fates.{Fates as FatesValue};
 ghost use Rattle.book_fates.specs.FateSteps.{Stepped, WatchesOnly, out_among, told_step};
 ghost use Rattle.book_fates.specs.Delivered.{IsReady, delivered_by, delivered_in, told_as, touched_by};
-ghost use Rattle.book_fates.specs.Timing.{AreAskedBy, TurnsAt};
+ghost use Rattle.book_fates.specs.Timing.{AreAskedBy, NoneWanted, StoppedBy, TurnsAt, unreached_among};
 ghost use Rattle.book_fates.specs.FatesKept.{IsKeptAt, IsMarkedAt, is_moment};
 
 use crate::answered::Answered;
@@ -20,7 +20,6 @@ use crate::fates::{take_told, touched_of};
 use crate::timing::{expire, start_first, stop_lost, stop_unreached};
 use call_journal::Sent;
 use std::alloc::Global;
-use std::collections::BTreeSet;
 use std::sync::ledger::Ledger;
 use watch_timers::Timers;
 use xc_base::{Authority, Key, List, Memory, Steps, Time};
@@ -100,30 +99,40 @@ impl Fates {
         );
     }
 
-    /// Ends and starts timers once the cache watches what is reached and the requests are known: those of keys that are no
-    /// longer reached end, and a wanted key that is asked for first has one from now on. The set has the keys of the list. It
+    /// Ends the timers of the watched keys that are no longer reached. It fails for want of memory alone.
+    pub fn leave(&mut self, alloc: Global, reached: &[Key]) -> Result<(), Memory>
+        ensures cache { OnOk result (self.new.cache ≡ self.old.cache) }
+        ensures keys { OnOk result (self.new.reached ≡ self.old.reached) }
+        ensures timers { OnOk result (StoppedBy self.old.timers self.new.timers (unreached_among self.old.reached reached.now)) }
+    {
+        stop_unreached(alloc, &mut self.timers, self.reached.as_slice(), reached)
+    }
+
+    /// Starts timers once the cache watches what is reached and the requests are known, and the timers of what is no longer
+    /// reached ended: a wanted key that is asked for first has one from now on. Where none is awaited it looks at no key. It
     /// fails for want of memory alone, and then nothing is said of what is kept.
     pub fn settle<L: Ledger>(
         &mut self,
         reached: List<Key>,
-        set: &BTreeSet<Key>,
+        awaits: bool,
         sent: &[Sent],
         now: Time,
         steps: &mut Steps<L>,
     ) -> Result<(), Memory>
-        requires set { set.now.keys ≡ reached }
+        requires awaits { awaits ≡ false → NoneWanted self.old.cache reached }
         ensures cache { OnOk result (self.new.cache ≡ self.old.cache) }
-        ensures kept { OnOk result ((s : Setting) (c : Came) (past : List EntryValue) (ps : List PageValue) (page : PageValue) (turn : Option AuthorityValue) (marks : FatesValue) → IsMarkedAt s c past ps now turn marks → self.old.timers ≡ marks.timers → self.old.reached ≡ marks.reached → IsWatching marks.cache self.old.cache reached → page.watched ≡ watch (marked s c past ps now) reached → page.now ≡ now → TurnsAt turn page → AreAskedBy sent.now reached past page → IsKeptAt (page.entry ∷ past) (page ∷ ps) self.new) }
+        ensures kept { OnOk result ((s : Setting) (c : Came) (past : List EntryValue) (ps : List PageValue) (page : PageValue) (turn : Option AuthorityValue) (marks : FatesValue) → IsMarkedAt s c past ps now turn marks → StoppedBy marks.timers self.old.timers (unreached_among marks.reached reached) → IsWatching marks.cache self.old.cache reached → page.watched ≡ watch (marked s c past ps now) reached → page.now ≡ now → TurnsAt turn page → AreAskedBy sent.now reached past page → IsKeptAt (page.entry ∷ past) (page ∷ ps) self.new) }
     {
-        stop_unreached(&mut self.timers, self.reached.as_slice(), set);
-        start_first(
-            &mut self.timers,
-            &self.cache,
-            reached.as_slice(),
-            sent,
-            now,
-            steps,
-        )?;
+        if awaits {
+            start_first(
+                &mut self.timers,
+                &self.cache,
+                reached.as_slice(),
+                sent,
+                now,
+                steps,
+            )?;
+        }
         self.reached = reached;
         Ok(())
     }

@@ -19,8 +19,10 @@ ghost use Rattle.book_fates.specs.FateSteps.{Knows, Stepped, out_among};
 ghost use Rattle.book_fates.specs.Timing.{AreTimed, expires_at, StoppedBy, StartedBy, is_turned, is_lost, lost_among, unreached_among, asks_at, is_first, first_among};
 
 use crate::fates::take_out;
+use crate::key_set::key_set;
 use crate::part_tests::same_kind;
 use call_journal::Sent;
+use std::alloc::Global;
 use std::collections::BTreeSet;
 use std::sync::ledger::Ledger;
 use watch_timers::Timers;
@@ -70,8 +72,8 @@ fn is_lost<L: Ledger>(
     is_turned(turn, key.home) || !is_wanted(cache.get(key, steps))
 }
 
-/// Ends the timers of those of these keys that are no longer wanted by what came, or whose stream turned. It takes no memory.
-pub fn stop_lost<L: Ledger>(
+/// Ends the timers of those of these keys that are no longer wanted by what came, or whose stream turned.
+fn stop_each_lost<L: Ledger>(
     timers: &mut Timers,
     cache: &Cache,
     before: &[Key],
@@ -87,8 +89,24 @@ pub fn stop_lost<L: Ledger>(
     }
 }
 
-/// Ends the timers of those of these keys that are no longer reached. It takes no memory.
-pub fn stop_unreached(timers: &mut Timers, before: &[Key], reached: &BTreeSet<Key>)
+/// Ends the timers of those of these keys that are no longer wanted by what came, or whose stream turned. Where no timer runs
+/// it looks at no key. It takes no memory.
+pub fn stop_lost<L: Ledger>(
+    timers: &mut Timers,
+    cache: &Cache,
+    before: &[Key],
+    turn: Option<Authority>,
+    steps: &mut Steps<L>,
+)
+    ensures { StoppedBy timers.old timers.new (lost_among before.now turn cache.now) }
+{
+    if !timers.is_empty() {
+        stop_each_lost(timers, cache, before, turn, steps);
+    }
+}
+
+/// Ends the timers of those of these keys that aren't in a set.
+fn stop_each_unreached(timers: &mut Timers, before: &[Key], reached: &BTreeSet<Key>)
     ensures { StoppedBy timers.old timers.new (unreached_among before.now reached.now.keys) }
 {
     for key in before {
@@ -96,6 +114,23 @@ pub fn stop_unreached(timers: &mut Timers, before: &[Key], reached: &BTreeSet<Ke
             timers.cancel(key);
         }
     }
+}
+
+/// Ends the timers of those of these keys that are no longer reached. Where no timer runs it looks at no key. It fails for want
+/// of memory alone.
+pub fn stop_unreached(
+    alloc: Global,
+    timers: &mut Timers,
+    before: &[Key],
+    reached: &[Key],
+) -> Result<(), Memory>
+    ensures { OnOk result (StoppedBy timers.old timers.new (unreached_among before.now reached.now)) }
+{
+    if !timers.is_empty() {
+        let set = key_set(alloc, reached)?;
+        stop_each_unreached(timers, before, &set);
+    }
+    Ok(())
 }
 
 /// Whether a request of a kind goes to an authority.
@@ -122,11 +157,11 @@ fn asks(sent: &[Sent], key: &Key) -> bool
     }
 }
 
-/// Whether the key is wanted and asked for.
+/// Whether the key is asked for and wanted.
 fn is_first<L: Ledger>(sent: &[Sent], cache: &Cache, key: &Key, steps: &mut Steps<L>) -> bool
     ensures { result ≡ is_first sent.now cache.now key.now }
 {
-    is_wanted(cache.get(key, steps)) && asks(sent, key)
+    asks(sent, key) && is_wanted(cache.get(key, steps))
 }
 
 /// Starts the timers of those of these keys that are wanted and asked for. It fails for want of memory alone.

@@ -1,5 +1,5 @@
 //! The timers of keys.
-ghost use Rattle.std.specs.Prelude.{◌≡◌, [], map, filter, not, OnOk, OnErr, IfOk};
+ghost use Rattle.std.specs.Prelude.{◌≡◌, ◌↔◌, [], map, filter, not, IsTrue, OnOk, OnErr, IfOk};
 ghost use Rattle.std.specs.BTreeMap.{IsOrdered};
 ghost use Rattle.std.specs.BTreeSet.{IsFromIterResult};
 ghost use Rattle.watch_timers.specs.Timers.{has_run, due_of, Starts, Stops, TakesDue};
@@ -112,6 +112,13 @@ impl Timers {
             alloc,
             starts: BTreeMap::new(alloc),
         }
+    }
+
+    /// Whether none runs. It takes no memory.
+    pub fn is_empty(&self) -> bool
+        ensures { IsTrue result ↔ (self.now ≡ []) }
+    {
+        self.starts.is_empty()
     }
 
     /// Starts the key's timer at this moment. One that runs keeps the time of its first start. Without memory nothing

@@ -111,7 +111,7 @@ impl<J: Job> Book<J> {
         self.make_room()?;
         let archive = self.archive.share()?;
         let kept = call.share()?;
-        let pin = self.calls.pin(call.get())?;
+        let pin = self.calls.pin(self.archive.get(), call.get())?;
         let reply = pin_reply(&pin);
         let event = CallerEvent::Pin(call);
         add_entry(&mut self.journal, lane, line, What::Caller { event, reply });

@@ -1,4 +1,4 @@
-use Rattle.std.proofs.Common.{[], sym, ap, ◌∙◌, subst}
+use Rattle.std.proofs.Common.{sym, ap, ◌∙◌, subst}
 use Rattle.std.specs.Prelude.{IfOk, option_map, unwrap_or}
 use Rattle.dep_manager.specs.KeptAssemblies.{AreChanges}
 use Rattle.xds_history.specs.Responses.{answered}

@@ -1,15 +1,12 @@
-use Rattle.std.proofs.Common.{sym, ap, ◌∙◌, not}
+use Rattle.std.proofs.Common.{ap, ◌∙◌, ◌&&◌, not, None}
+use Rattle.std.specs.Prelude.{if◌then◌else◌}
+use Rattle.watch_timers.specs.Timers.{started_at}
 use Rattle.config_assembly.specs.Watching.{has_key}
-use Rattle.config_assembly.proofs.WatchLemmas.{has_alike}
-use Rattle.book_fates.proofs.EntryLemmas.{stop_hit, stop_miss}
+use Rattle.config_assembly.proofs.WatchLemmas.{has_sorted}
 use Rattle.book_fates.proofs.timing.stop_unreached.Goals as goal
-use Rattle.book_fates.proofs.timing.stop_unreached.Goals.{then-not-contains, else-not-contains}
 
-pub loop-key-preserved : goal.loop-key-preserved
-loop-key-preserved c =
-    elim c.if-not-contains.branch [
-      | then-not-contains w ↦ rw (w.timers-is) (stop_hit (λ key. not (has_key c.args.reached.now.keys key)) c.args.timers.now c.loop-key.timers w.cancel.new.self c.args.before.now c.loop-key.key-index c.key-item.result c.loop-key-test.true c.key-item.is
-          (ap not (sym (has_alike c.args.reached.now.keys c.key-item.result) ∙ sym c.contains.ensures ∙ w.if-not-contains.true)) w.cancel.ensures c.loop-key.invariant)
-      | else-not-contains w ↦ rw (w.timers-is) (stop_miss (λ key. not (has_key c.args.reached.now.keys key)) c.args.timers.now c.loop-key.timers c.args.before.now c.loop-key.key-index c.key-item.result c.loop-key-test.true c.key-item.is
-          (ap not (sym (has_alike c.args.reached.now.keys c.key-item.result) ∙ sym c.contains.ensures ∙ w.if-not-contains.false)) c.loop-key.invariant)
-    ]
+pub returns-in_ok-set : goal.returns-in_ok-set
+returns-in_ok-set c key =
+    c.stop_each_unreached.ensures key
+    ∙ ap (λ b. if (has_key c.args.before.now key && not b) then None else started_at c.args.timers.now key)
+    (ap (λ keys. has_key keys key) c.in_ok-set.ensures ∙ has_sorted c.args.reached.now key)

@@ -1,21 +1,17 @@
-use Rattle.std.proofs.Common.{None, refl}
-use Rattle.book_calls.proofs.RefSteps.{pin_over}
-use Rattle.book_calls.proofs.CallsProofs.{calls_pinned, calls_unpinned, if_failed, latest_is_of}
+use Rattle.xds_history.specs.Pages.{pages}
+use Rattle.book_calls.proofs.CallsProofs.{if_failed}
 use Rattle.book_calls.proofs.calls.Calls.pin.Goals as goal
 
-pub returns-in_err-set_pin-clause-err : goal.returns-in_err-set_pin-clause-err
-returns-in_err-set_pin-clause-err c =
-    if_failed c.from_residual-in_err-set_pin.result (λ archive ps none kept. calls_unpinned archive ps c.args.self.now c.args.call.now.id c.set_pin.new.refs c.args.self.now.pins none c.in_err-set_pin.ensures.err refl kept)
+pub returns-in_err-pin-clause-err : goal.returns-in_err-pin-clause-err
+returns-in_err-pin-clause-err c =
+    if_failed c.from_residual-in_err-pin.result (λ ps none kept. c.in_err-pin.ensures.err c.args.archive.now ps none (c.latest_names.ensures.kept ps kept))
 
-pub returns-in-Ok-clause-ticket : goal.returns-in-Ok-clause-ticket
-returns-in-Ok-clause-ticket c = λ archive ps kept. latest_is_of archive ps c.args.self.now c.in-Some.latest c.in_ok-given.given c.in-Some.is c.in_ok-given.ensures kept
+pub returns-clause-reply : goal.returns-clause-reply
+returns-clause-reply c = λ ps kept. c.in_ok-pin.ensures.reply c.args.archive.now ps (c.latest_names.ensures.kept ps kept)
 
-pub returns-in-Ok-clause-kept : goal.returns-in-Ok-clause-kept
-returns-in-Ok-clause-kept c = λ archive s past actor line reply right none holds_none answers kept.
-    calls_pinned archive s past actor line c.args.call.now reply c.args.self.now c.in-Some.latest c.set_pin.new.refs c.set_pinning.new.pins c.in_ok-kept.kept right none holds_none answers c.in-Some.is c.in_ok-kept.ensures
-    c.in_ok-set_pin.ensures.ok c.in-Ok.ensures.ok kept
+pub returns-clause-reads : goal.returns-clause-reads
+returns-clause-reads c = λ ps kept. c.in_ok-pin.ensures.reads c.args.archive.now ps (c.latest_names.ensures.kept ps kept)
 
-pub returns-in-Err-clause-err : goal.returns-in-Err-clause-err
-returns-in-Err-clause-err c = λ archive ps none kept.
-    calls_unpinned archive ps c.args.self.now c.args.call.now.id c.unpin.new.self c.set_pinning.new.pins none
-    (pin_over c.args.self.now.refs c.set_pin.new.refs c.unpin.new.self c.args.call.now.id _ None c.in_ok-set_pin.ensures.ok c.unpin.ensures.gone) c.in-Err.ensures.err kept
+pub returns-clause-kept : goal.returns-clause-kept
+returns-clause-kept c = λ s past actor line reply right none holds_none answers kept.
+    c.in_ok-pin.ensures.kept c.args.archive.now s past actor line reply right none holds_none answers (c.latest_names.ensures.kept (pages s past) kept)

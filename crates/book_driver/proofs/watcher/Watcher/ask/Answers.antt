@@ -1,10 +1,16 @@
 use Rattle.std.proofs.Common.{refl, sym, ◌∙◌, subst}
+use Rattle.config_assembly.specs.Watching.{IsWatching}
 use Rattle.xds_history.specs.Pages.{came, pages}
-use Rattle.book_fates.specs.Timing.{AreAskedBy}
+use Rattle.book_fates.specs.Timing.{AreAskedBy, NoneWanted, StoppedBy, unreached_among}
 use Rattle.book_fates.specs.FatesKept.{turned_by}
 use Rattle.driver_step.specs.DriverSteps.{watched_by}
-use Rattle.book_driver.proofs.WatcherLemmas.{keys_by, settles, watched_after}
+use Rattle.book_driver.proofs.WatcherLemmas.{keys_by, left_by, none_there, settles, watched_after}
 use Rattle.book_driver.proofs.watcher.Watcher.ask.Goals as goal
+
+pub settle-requires : goal.settle-requires
+settle-requires g c = record {
+  awaits = λ none. subst (λ rows. NoneWanted rows c.args.reached) (sym c.in_ok-leave.ensures.cache) (c.requires (none_there c.args.missing.now (sym c.is_some.ensures ∙ none)));
+}
 
 pub returns-clause-sent : goal.returns-clause-sent
 returns-clause-sent g c s past before a by same =
@@ -16,9 +22,11 @@ returns-clause-kept g c s past line event reply a by assembled_is same timely to
     let asked = c.in_ok-sent.ensures.sent s (came event reply) past (watched_by s (came event reply) past (pages s past) a) keys by.streams_are in
     watched_after s past line event reply c.args.now a c.args.reached c.args.self.now
     (record { alloc = c.args.self.now.alloc; boot = c.args.self.now.boot; deps = c.args.self.now.deps; streams = c.names.new.self; fates = c.settle.new.self })
-    by assembled_is same refl refl c.in_ok-settle.ensures.cache
+    by assembled_is same refl refl (c.in_ok-settle.ensures.cache ∙ c.in_ok-leave.ensures.cache)
     (c.in_ok-sent.ensures.after s 0 line event reply past (watched_by s (came event reply) past (pages s past) a) keys by.streams_are (told ∙ asked))
     (settles s past line event reply c.args.now a c.args.reached c.in_ok-sent.sent c.args.self.now c.settle.new.self by assembled_is same timely told asked
     (λ page watched now_is turns asks.
-    c.in_ok-settle.ensures.kept s (came event reply) past (pages s past) page (turned_by event reply.verdict) by.marks by.marked by.timers_are by.before_are by.watching watched now_is turns
+    c.in_ok-settle.ensures.kept s (came event reply) past (pages s past) page (turned_by event reply.verdict) by.marks by.marked
+    (left_by by.marks c.args.self.now.fates c.leave.new.self c.args.reached by.timers_are by.before_are (subst (λ keys. StoppedBy c.args.self.now.fates.timers c.leave.new.self.timers (unreached_among c.args.self.now.fates.reached keys)) c.as_slice-2.ensures c.in_ok-leave.ensures.timers))
+    (subst (λ rows. IsWatching by.marks.cache rows c.args.reached) (sym c.in_ok-leave.ensures.cache) by.watching) watched now_is turns
     (subst (λ xs. AreAskedBy xs c.args.reached past page) (sym c.as_slice-3.ensures) asks)))

@@ -1,7 +1,5 @@
 use Rattle.std.proofs.Common.{refl}
-use Rattle.config_assembly.specs.ReachedResources.{resources}
-use Rattle.driver_step.proofs.KeySets.{reached_keys_rise}
-use Rattle.book_driver.proofs.WatcherLemmas.{assembly_by, reached_by}
+use Rattle.book_driver.proofs.WatcherLemmas.{assembly_by, none_wanted, reached_by}
 use Rattle.book_driver.proofs.watcher.Watcher.assemble.Goals as goal
 
 pub returns-clause-reached : goal.returns-clause-reached
@@ -16,5 +14,6 @@ returns-clause-assembly g c s past came now by timely =
     (record { reached_are = c.in_ok-outcome.ensures.reached; missing_is = c.in_ok-outcome.ensures.missing; config_is = c.in_ok-outcome.ensures.config })
     c.in_ok-outcome.ensures.whole
 
-pub returns-clause-order : goal.returns-clause-order
-returns-clause-order g c = reached_keys_rise (resources c.args.self.now.deps.target c.args.self.now.boot.authorities c.args.self.now.fates.cache) c.args.references.now c.in_ok-outcome.outcome.reached c.in_ok-outcome.ensures.reached
+pub returns-clause-known : goal.returns-clause-known
+returns-clause-known g c none =
+    none_wanted c.args.self.now.fates.cache c.update.new.cache c.in_ok-outcome.outcome.reached c.in_ok-outcome.outcome.missing c.in_ok-outcome.ensures.missing c.in_ok-outcome.ensures.watched none

@@ -2,8 +2,8 @@ use Rattle.std.proofs.Common.{sym, ap, ◌∙◌}
 use Rattle.book_fates.specs.FateSteps.{is_let_go, gone_step}
 use Rattle.book_fates.specs.Delivered.{delivered_in, told_as}
 use Rattle.book_fates.proofs.WalkLemmas.{next_key, goes, remains, gone_again}
-use Rattle.book_fates.proofs.fates.let_go.Goals as goal
-use Rattle.book_fates.proofs.fates.let_go.Goals.{then-is_let_go, else-is_let_go}
+use Rattle.book_fates.proofs.fates.let_each_go.Goals as goal
+use Rattle.book_fates.proofs.fates.let_each_go.Goals.{then-is_let_go, else-is_let_go}
 
 pub loop-key-preserved : goal.loop-key-preserved
 loop-key-preserved g c =
