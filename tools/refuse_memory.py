@@ -8,14 +8,14 @@ thread, answers that there is none), `read` and `write` (standard input or outpu
 broken off), `short` (a read or write of several bytes moves one) and `thread` (a thread can't be started). With no kind
 it is all of them; with no session the four that are worked in examples/: a plain path, a route that moves under a
 call, a failover, and a channel with two authorities. With --sample N it is N requests of each kind, spread evenly; with
---onward all later requests of the kind fail too.
+--onward all later requests of the kind fail too (but for `interrupt`, where a program would try for ever).
 
 What is wanted, where the whole report is what the session gives without a fault:
 
     memory             `out of memory` after a front of the whole report, or the whole report
     read               `read fault` and nothing is written
     write              `write fault` after a front of the whole report
-    interrupt          one of these two, or the whole report
+    interrupt          the whole report: a read or write that was broken off is made again
     short, thread      the whole report
 
 Each line of a session waits for the line before, so that there is one report, also with callers on threads. For each
@@ -46,7 +46,11 @@ def words():
     parser.add_argument("--sample", type=int, metavar="N", help="at most N requests of each kind")
     parser.add_argument("--onward", action="store_true", help="all later requests of the kind fail too")
     parser.add_argument("session", nargs="*", metavar="SESSION", help="a session's file, or the name of an example")
-    return parser.parse_args()
+    given = parser.parse_args()
+    if given.onward and "interrupt" in (given.kind or []):
+        parser.error("--onward doesn't go with --kind interrupt")
+    given.kind = given.kind or [kind for kind in tracing.KINDS if not (given.onward and kind == "interrupt")]
+    return given
 
 
 def file_of(name):
@@ -68,12 +72,13 @@ def judged(kind, end, out, whole):
     """How a run ended, and whether that is as it should be."""
     is_whole, is_front = end == "done" and out == whole, whole.startswith(out)
     name = "whole" if is_whole else f"{end} after a front" if is_front and out else end
-    if kind in ("short", "thread"):
+    if kind in ("interrupt", "short", "thread"):
         return name, is_whole
     if kind == "memory":
         return name, is_whole or end == "out of memory" and is_front
-    is_read, is_write = end == "read fault" and not out, end == "write fault" and is_front
-    return name, kind != "write" and is_read or kind != "read" and is_write or kind == "interrupt" and is_whole
+    if kind == "read":
+        return name, end == "read fault" and not out
+    return name, end == "write fault" and is_front
 
 
 class Sweep:
@@ -111,7 +116,7 @@ def main():
         with tempfile.NamedTemporaryFile() as file:
             file.write(player.in_file_order(file_of(name).read_bytes()))
             file.flush()
-            for kind in given.kind or tracing.KINDS:
+            for kind in given.kind:
                 count, ends, bad = Sweep(program, file.name).sweep(kind, given.sample, given.onward)
                 told = ", ".join(f"{times:,} {end}" for end, times in sorted(ends.items())) or "none"
                 print(f"{pathlib.Path(name).stem}, {kind}: {count:,} requests; runs: {told}", flush=True)
