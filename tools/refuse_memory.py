@@ -1,14 +1,15 @@
 #!/usr/bin/env python3
 """Refuses a program's requests to the system, one in each run, and looks at how each run ends.
 
-    refuse_memory.py [--program NAME] [--kind KIND].. [--sample N] [--onward] [SESSION..]
+    refuse_memory.py [--program NAME] [--kind KIND].. [--sample N] [--least N] [--onward] [SESSION..]
 
 Each session is played once for each request of a kind that it makes: `memory` (a call of malloc or the like, by any
 thread, answers that there is none), `read` and `write` (standard input or output fails), `interrupt` (a read or write is
 broken off), `short` (a read or write of several bytes moves one) and `thread` (a thread can't be started). With no kind
 it is all of them; with no session the four that are worked in examples/: a plain path, a route that moves under a
 call, a failover, and a channel with two authorities. With --sample N it is N requests of each kind, spread evenly; with
---onward all later requests of the kind fail too (but for `interrupt`, where a program would try for ever).
+--least N a session that makes fewer requests of a kind is wrong; with --onward all later requests of the kind fail too
+(but for `interrupt`, where a program would try for ever).
 
 What is wanted, where the whole report is what the session gives without a fault:
 
@@ -44,6 +45,7 @@ def words():
     parser.add_argument("--program", default="xds_replay", help="a program of this repository that plays sessions")
     parser.add_argument("--kind", action="append", choices=tracing.KINDS, help="what fails; all kinds where none is named")
     parser.add_argument("--sample", type=int, metavar="N", help="at most N requests of each kind")
+    parser.add_argument("--least", type=int, default=0, metavar="N", help="at least N requests of each kind are to be made")
     parser.add_argument("--onward", action="store_true", help="all later requests of the kind fail too")
     parser.add_argument("session", nargs="*", metavar="SESSION", help="a session's file, or the name of an example")
     given = parser.parse_args()
@@ -82,23 +84,25 @@ def judged(kind, end, out, whole):
 
 
 class Sweep:
-    """Plays one session with one fault after another."""
+    """Plays one session with one fault after another, as the words of the command line have it."""
 
-    def __init__(self, program, file):
-        self.program, self.file = program, file
+    def __init__(self, program, file, given):
+        self.program, self.file, self.given = program, file, given
 
     def run(self, fault):
         return tracing.run(self.program.command, self.file, fault)
 
-    def sweep(self, kind, sample, onward):
+    def sweep(self, kind):
         """Lets requests of a kind fail, one in each run. It gives their number, the counts of ends, and the bad runs."""
         first = self.run(tracing.Fault(kind))
         end = self.program.end_of(first.status, first.err)
         if end != "done":
             return first.count, collections.Counter(), [f"without a fault: {end}"]
         ends, bad = collections.Counter(), []
-        for number in spread(first.count, sample):
-            ran = self.run(tracing.Fault(kind, number, onward))
+        if first.count < self.given.least:
+            bad.append(f"{first.count} requests, where {self.given.least} are wanted")
+        for number in spread(first.count, self.given.sample):
+            ran = self.run(tracing.Fault(kind, number, self.given.onward))
             name, is_right = judged(kind, self.program.end_of(ran.status, ran.err), ran.out, first.out)
             ends[name] += 1
             if not is_right:
@@ -117,7 +121,7 @@ def main():
             file.write(player.in_file_order(file_of(name).read_bytes()))
             file.flush()
             for kind in given.kind:
-                count, ends, bad = Sweep(program, file.name).sweep(kind, given.sample, given.onward)
+                count, ends, bad = Sweep(program, file.name, given).sweep(kind)
                 told = ", ".join(f"{times:,} {end}" for end, times in sorted(ends.items())) or "none"
                 print(f"{pathlib.Path(name).stem}, {kind}: {count:,} requests; runs: {told}", flush=True)
                 for line in bad[:5]:
