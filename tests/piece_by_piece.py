@@ -1,7 +1,8 @@
 """tests/piece_by_piece.py PROGRAM: hands sessions to a program one byte at a time, and takes its report so too.
 
-Each byte is written alone, after a short pause, in which the program can take it. The reports are byte for byte those of
-examples/, and a session that is refused has its message and no report.
+The session comes by a pipe in packet mode (`O_DIRECT`, see pipe(2)): each byte is written alone, and each read of the program
+gets one byte, however many it asks for. All examples are played so. The reports are byte for byte those of examples/, and a
+session that is refused has its message and no report.
 """
 
 import os
@@ -9,22 +10,21 @@ import pathlib
 import subprocess
 import sys
 import threading
-import time
 
 EXAMPLES = pathlib.Path(__file__).resolve().parent.parent / "examples"
-NAMES = ["no_events", "stream_reopened", "two_callers"]
-PAUSE = 0.0001
+REFUSED = [("cut in its last line", b"d swee", b"xds_replay: session line 5: word\n"),
+           ("of another line", b"d swept\nd sweep\n", b"xds_replay: session line 5: word\n"),
+           ("that is no text", b"d sweep\n\xff", b"xds_replay: session line 6: text\n")]
 
 
 def feed(pipe, data):
-    """Writes bytes one by one, each after a pause, up to the end or until nobody takes them."""
+    """Writes bytes one by one, up to the end or until nobody takes them."""
     try:
         for place in range(len(data)):
-            time.sleep(PAUSE)
-            os.write(pipe.fileno(), data[place:place + 1])
+            os.write(pipe, data[place:place + 1])
     except BrokenPipeError:
         pass
-    pipe.close()
+    os.close(pipe)
 
 
 def taken(pipe):
@@ -34,26 +34,33 @@ def taken(pipe):
 
 def played(program, data):
     """The status, the report and the message of a session."""
-    run = subprocess.Popen([program, "run"], stdin=subprocess.PIPE, stdout=subprocess.PIPE, stderr=subprocess.PIPE, bufsize=0)
-    feeder = threading.Thread(target=feed, args=(run.stdin, data))
+    source, pipe = os.pipe2(os.O_DIRECT | os.O_CLOEXEC)
+    run = subprocess.Popen([program, "run"], stdin=source, stdout=subprocess.PIPE, stderr=subprocess.PIPE, bufsize=0)
+    os.close(source)
+    feeder = threading.Thread(target=feed, args=(pipe, data))
     feeder.start()
-    report, message = taken(run.stdout), taken(run.stderr)
+    with run:
+        report, message = taken(run.stdout), taken(run.stderr)
     feeder.join()
-    return run.wait(), report, message
+    return run.returncode, report, message
+
+
+def cases():
+    """Each session by its name, with the status, the report and the message that are wanted."""
+    for path in sorted(EXAMPLES.glob("*.session")):
+        yield path.stem, path.read_bytes(), (0, path.with_suffix(".expected").read_bytes(), b"")
+    for name, last, message in REFUSED:
+        yield f"a session {name}", (EXAMPLES / "no_events.session").read_bytes() + last, (3, b"", message)
 
 
 def main():
-    program, bad = pathlib.Path(sys.argv[1]).resolve(), 0
-    cases = [(name, (EXAMPLES / f"{name}.session").read_bytes(), (0, (EXAMPLES / f"{name}.expected").read_bytes(), b""))
-             for name in NAMES]
-    cut = (EXAMPLES / "no_events.session").read_bytes() + b"d swee"
-    cases.append(("a session that is cut", cut, (3, b"", b"xds_replay: session line 5: word\n")))
-    for name, data, wanted in cases:
+    program, good, bad = pathlib.Path(sys.argv[1]).resolve(), 0, 0
+    for name, data, wanted in cases():
         got = played(program, data)
+        good, bad = good + (got == wanted), bad + (got != wanted)
         if got != wanted:
-            bad += 1
             print(f"piece_by_piece: {name}: {got}, where {wanted} is wanted"[:600])
-    print(f"piece_by_piece: {len(cases) - bad} good, {bad} bad")
+    print(f"piece_by_piece: {good} good, {bad} bad")
     return bad > 0
 
 
