@@ -82,36 +82,61 @@ def long_paragraphs(text):
     return [f"a paragraph of {len(it)} words: {' '.join(it[:6])} .." for it in parts if len(it) > MOST_WORDS]
 
 
-def readme_faults():
-    """What is wrong with the length of the README."""
-    text = (HOME / "README.md").read_text()
-    lines = len(text.splitlines())
-    return long_paragraphs(text) + ([f"{lines} lines, above {MOST_LINES}"] if lines > MOST_LINES else [])
+def length_faults():
+    """The documents' paragraphs that are too long, and a README that is."""
+    found = [f"{file.relative_to(HOME)}: {it}" for file in documents() for it in long_paragraphs(file.read_text())]
+    lines = len((HOME / "README.md").read_text().splitlines())
+    return found + ([f"README.md: {lines} lines, above {MOST_LINES}"] if lines > MOST_LINES else [])
 
 
-def clauses_of(readme):
-    """The clauses that the table of a crate's README names."""
-    named, is_table = [], False
+def clause_rows(readme):
+    """What the tables of a crate's README say: some calls or laws, and their clauses. A row without a call goes on with those of
+    the row above."""
+    rows, head = [], None
     for line in readme.read_text().splitlines():
-        cells = [cell.strip() for cell in line.strip("|").split("|")]
-        is_table = line.startswith("|") and (is_table or cells[:2] == ["Call", "Clause"])
-        if is_table and len(cells) > 2:
-            named += re.findall(r"`([a-z_]+)`", cells[1])
-    return named
+        cells = [cell.strip() for cell in line.strip("|").split("|")] if line.startswith("|") else None
+        if not cells or not head:
+            head = cells and [cell.lower() for cell in cells]
+            continue
+        calls = re.findall(r"`(?:[\w<>]+::)*(\w+)`", cells[0])
+        if head[0] in ("call", "law") and (calls or not rows):
+            rows.append((calls, []))
+        if head[0] in ("call", "law") and head[1] == "clause":
+            rows[-1][1].extend(re.findall(r"`(\w+)`", cells[1]))
+    return rows
+
+
+def functions_of(sources):
+    """The functions of some sources, each with its clauses: the names of those that have one, and the first words of the others."""
+    found = {}
+    for text in sources:
+        parts = re.split(r"\bfn (\w+)", re.sub(r"//.*", "", text))
+        for name, after in zip(parts[1::2], parts[2::2]):
+            found.setdefault(name, set()).update(re.findall(r"\bensures\*? (?:\{ *)?(\w+)", after))
+    return found
+
+
+def other_clauses(crate, sources):
+    """The clauses of a crate that are of no function of its own: those of traits and of types, and the members of a record."""
+    text = "\n".join(sources)
+    records = "\n".join(it.read_text() for it in (crate / "specs").rglob("*.antt"))
+    return {*re.findall(r"\bghost (\w+):", text), *re.findall(r"\bimpl\b[^\n]*?\b(\w+) for\b", text),
+            *re.findall(r"^ +(?:pub )?([a-z_]+) :", records, re.M), *OF_STD}
 
 
 def clause_faults():
-    """The clauses that a README names and no source of its crate has, and how many were looked at. A clause may be a record,
-    whose members are clauses too."""
+    """The calls and clauses that a README names and no source of its crate has, and how many were looked at. A clause stands
+    at one of the row's calls, where one of them is a function of the crate."""
     found, looked = [], 0
     for readme in sorted(HOME.glob("crates/*/README.md")):
-        sources = "\n".join(it.read_text() for it in (readme.parent / "src").rglob("*.rt"))
-        records = "\n".join(it.read_text() for it in (readme.parent / "specs").rglob("*.antt"))
-        words = {*re.findall(r"\bensures\*? ([a-z_]+) \{", sources), *re.findall(r"\bghost ([a-z_]+):", sources),
-                 *re.findall(r"^ +(?:pub )?([a-z_]+) :", records, re.M), *OF_STD}
-        named = clauses_of(readme)
-        looked += len(named)
-        found += [f"{readme.relative_to(HOME)}: no clause is named {it}" for it in named if it not in words]
+        sources = [it.read_text() for it in (readme.parent / "src").rglob("*.rt")]
+        functions, others = functions_of(sources), other_clauses(readme.parent, sources)
+        for calls, named in clause_rows(readme):
+            known = others.union(*(functions.get(call, ()) for call in calls))
+            faults = [f"no function is named {call}" for call in calls if call.islower() and call not in functions]
+            faults += [f"{' and '.join(calls)} has no clause {word}" for word in named if word not in known]
+            looked += len(calls) + len(named)
+            found += [f"{readme.relative_to(HOME)}: {it}" for it in faults]
     return found, looked
 
 
@@ -127,7 +152,7 @@ def main():
     for fault in found:
         print(fault)
     drawn = subprocess.run([sys.executable, HOME / "tools/draw_crates.py", "--check"], stdout=subprocess.PIPE, text=True)
-    for faults in ([f"README.md: {it}" for it in readme_faults()], drawn.stdout.splitlines()):
+    for faults in (length_faults(), drawn.stdout.splitlines()):
         passed, failed = passed + (not faults), failed + bool(faults)
         for fault in faults:
             print(fault)
