@@ -6,7 +6,7 @@ room=$(mktemp -d)
 trap 'rm -rf "$room"' EXIT
 bad=0 good=0
 
-# played NAME STATUS TEXT WORD..: plays with these words; the status is as told, and the whole output has the text.
+# played NAME STATUS TEXT WORD..: plays with these words; the status is as told, and the output has the text.
 played() {
   local name=$1 wanted=$2 text=$3 got=0
   shift 3

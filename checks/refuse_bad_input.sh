@@ -112,11 +112,11 @@ at 'too many entries' 0 entries < <(printf '%s\nd open -\nd data - ' "$head4"; z
 at 'too many bytes' 0 size < <(head -c 67108865 /dev/zero)
 refused 'a source that fails' 4 'xds_replay: read fault' run <.
 
-# No front of a session has a part of a report, and most are no session.
+# No prefix of a session has a part of a report, and most are no session.
 for length in $(seq 0 29 "$(stat -c %s examples/first_fitting_route.session)"); do
   got=0
-  head -c "$length" examples/first_fitting_route.session >"$room/front"
-  "$program" run <"$room/front" >"$room/out" 2>"$room/err" || got=$?
+  head -c "$length" examples/first_fitting_route.session >"$room/prefix"
+  "$program" run <"$room/prefix" >"$room/out" 2>"$room/err" || got=$?
   case $got in
     0) last=$(tail -1 "$room/out") && [ "${last%% *}" = end ] && [ ! -s "$room/err" ] ;;
     3) [ ! -s "$room/out" ] && [ "$(wc -l <"$room/err")" = 1 ] ;;

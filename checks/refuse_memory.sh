@@ -1,6 +1,6 @@
 # Lets requests of the program to the system fail, one in each run: of four worked sessions some requests for memory, spread
 # evenly, and all reads and writes; and of a session whose report takes many writes each write. Each run ends by the named
-# cause after a prefix of the report, or with the whole report.
+# cause after a prefix of the report, or with the full report.
 set -euo pipefail
 cd "$(dirname "$0")/.."
 XDS_REPLAY=$(bash tools/built.sh)

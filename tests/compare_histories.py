@@ -27,7 +27,7 @@ def random_sessions(reference, count, first, most):
     """So many sessions of at most so many lines, each with its number."""
     number = first
     while count > 0:
-        text = reference.whole_session(number)
+        text = reference.random_session(number)
         if text.count(b"\n") <= most:
             count -= 1
             yield f"session {number}", text
@@ -51,7 +51,7 @@ def worked_sessions(folder):
 
 
 def own_report(folder, name):
-    """The report that stands beside a worked session, if there is one for the whole program."""
+    """The report that stands beside a worked session, if there is one of all of the program."""
     path = folder / f"{name}.expected"
     if path.exists() and not (folder / f"{name}.stage").exists():
         return path.read_text()
@@ -105,13 +105,13 @@ def compare_with(folder, program, choice, comparison):
     before = comparison.equal + comparison.bad
     for name, text in worked_sessions(rows):
         got = told(program, text)
-        comparison.compare(name, got, reference.whole_report(text))
+        comparison.compare(name, got, reference.report_of(text))
         own = own_report(rows, name)
         if own is not None and not got.startswith("session line"):
             comparison.compare(f"{name}.expected", got, own)
     worked, entries, faults = comparison.equal + comparison.bad - before, 0, 0
     for name, text in random_sessions(reference, *choice):
-        wanted = reference.whole_report(text)
+        wanted = reference.report_of(text)
         entries += wanted.count("\n")
         faults += wanted.startswith("session line")
         comparison.compare(name, told(program, text), wanted)

@@ -181,8 +181,8 @@ def leaves_out(messages):
     """What isn't read is left out, and noted once."""
     messages.left_out.seen.clear()
     made = session_of(messages, "x", route("{match: {prefix: /}, route: {cluster: web, timeout: 1s}, metadata: {}}"))
-    plain = session_of(messages, "x", route("{match: {prefix: /}, route: {cluster: web}}"))
-    return made == plain and set(messages.left_out.seen) == {"RouteAction.timeout", "Route.metadata"}
+    without = session_of(messages, "x", route("{match: {prefix: /}, route: {cluster: web}}"))
+    return made == without and set(messages.left_out.seen) == {"RouteAction.timeout", "Route.metadata"}
 
 
 def command(*words, given=b""):

@@ -85,7 +85,7 @@ def diamond_of_17_levels():
 
 
 def cuts():
-    """The plain path, cut off in its line 6: a word is missing, or the hexadecimal text is empty or odd."""
+    """The session first_path, cut off in its line 6: a word is missing, or the hexadecimal text is empty or odd."""
     text = (HERE.parent / "examples/first_path.session").read_bytes()
     lines = text.split(b"\n")
     before, line = b"".join(it + b"\n" for it in lines[:5]), lines[5]

@@ -63,9 +63,9 @@ def faults_of(file):
     text = file.read_text()
     prose = FENCE.sub("", text)
     found, looked = [], 0
-    for whole in LINK.finditer(prose):
+    for match in LINK.finditer(prose):
         looked += 1
-        link = whole.group(1) or whole.group(2)
+        link = match.group(1) or match.group(2)
         found += [f"{link}: {fault}" for fault in [link_fault(file, link)] if fault]
     blocks = [it.group() for shape in (FENCE, INDENTED) for it in shape.finditer(text)]
     for code in CODE.findall(prose) + blocks:

@@ -33,7 +33,7 @@ EXAMPLES = sorted(path for path in (ROOT / "examples").glob("*.expected")
                   if path.read_bytes().startswith(b"xds-report"))
 SMALL = sorted((ROOT / "tests" / "reports").glob("*.report"))
 TOOL = ROOT / "tools" / "report.py"
-PLAIN = ROOT / "examples" / "priority_failover.expected"
+EXAMPLE = ROOT / "examples" / "priority_failover.expected"
 
 
 def story_of(path: pathlib.Path) -> Story:
@@ -120,9 +120,9 @@ class Values(unittest.TestCase):
 
     def test_escapes(self):
         pairs = [("a b", "a%20b"), ("é", "%C3%A9"), ("%,=|", "%25%2C%3D%7C"), ("", ""), ("*!/:+~", "*!/:+~")]
-        for plain, written in pairs:
-            self.assertEqual(model.escape(plain), written)
-            self.assertEqual(model.unescape(written), plain)
+        for text, written in pairs:
+            self.assertEqual(model.escape(text), written)
+            self.assertEqual(model.unescape(written), text)
         for wrong in ("%2f", "%41", "a b", "%", "a=b"):
             self.assertIsNone(model.unescape(wrong))
 
@@ -316,12 +316,12 @@ class Sentences(unittest.TestCase):
 
     def test_failover(self):
         self.check(
-            story_of(PLAIN),
+            story_of(EXAMPLE),
             "priority 0 connecting → ready, now chosen; priority 1 no longer chosen, now out of use.",
             "priority 1 ready → not there.")
 
     def test_session_beside(self):
-        story, session = story_of(PLAIN), session_of(PLAIN)
+        story, session = story_of(EXAMPLE), session_of(EXAMPLE)
         self.check(story, "[line 9: d endpoint 10.0.0.1:80 failing]", "(272 bytes)]", session=session)
         self.assertEqual(shorten("c 1 start 0 0 /\x1b"), "c 1 start 0 0 /\\x1b")
         self.assertEqual(shorten("@7 d data - " + "ab" * 20), "@7 d data - abababababababab… (20 bytes)")
@@ -338,12 +338,12 @@ class Sentences(unittest.TestCase):
 
 class CommandLine(unittest.TestCase):
     def test_page(self):
-        done = run(PLAIN, PLAIN.with_suffix(".session"))
+        done = run(EXAMPLE, EXAMPLE.with_suffix(".session"))
         self.assertEqual((done.returncode, done.stderr), (0, b""))
         self.assertTrue(done.stdout.startswith(b"<!DOCTYPE html>"))
 
     def test_standard_input(self):
-        self.assertEqual(run("--text", "-", data=PLAIN.read_bytes()).stdout, run("--text", PLAIN).stdout)
+        self.assertEqual(run("--text", "-", data=EXAMPLE.read_bytes()).stdout, run("--text", EXAMPLE).stdout)
 
     def test_why(self):
         done = run("--text", "--why", "1", ROOT / "tests" / "reports" / "calls.report")
@@ -364,13 +364,13 @@ class CommandLine(unittest.TestCase):
     def test_refusals(self):
         self.refuse("the report: line 2: the entry's number is 2", "-", data=b"xds-report 1\n2 0 d sweep ok whole\n")
         self.refuse("can't be read", "no such file")
-        self.refuse("the report has no call 9", "--text", "--why", "9", PLAIN)
-        self.refuse("the report has no cluster nowhere", "--text", "--cluster", "nowhere", PLAIN)
-        self.refuse("line 1: a session begins", PLAIN, PLAIN)
+        self.refuse("the report has no call 9", "--text", "--why", "9", EXAMPLE)
+        self.refuse("the report has no cluster nowhere", "--text", "--cluster", "nowhere", EXAMPLE)
+        self.refuse("line 1: a session begins", EXAMPLE, EXAMPLE)
 
     def test_another_session(self):
-        other = PLAIN.with_name("cluster_kept_until_last_commit.session")
-        self.refuse("isn't what entry 8 of the report played", PLAIN, other)
+        other = EXAMPLE.with_name("cluster_kept_until_last_commit.session")
+        self.refuse("isn't what entry 8 of the report played", EXAMPLE, other)
 
 
 @unittest.skipUnless(os.environ.get("REPORT_BROWSER"), "REPORT_BROWSER isn't set")

@@ -61,7 +61,7 @@ class Inputs:
 
 
 def payloads_of(text):
-    """The messages of a session's data lines that are whole frames."""
+    """The messages of a session's data lines that are complete frames."""
     for line in text.split(b"\n"):
         words = line.split(b" ")
         if b"data" not in words[:4]:

@@ -257,6 +257,6 @@ class Damage:
         if b"data" not in words[:4]:
             return lines
         middle = self.r.randrange(0, len(words[-1]) + 1, 2)
-        front, rest = words[-1][:middle], words[-1][middle:]
+        first, rest = words[-1][:middle], words[-1][middle:]
         head = b" ".join(words[:-1])
-        return lines[:at] + [head + b" " + front, b"d data - " + rest] + lines[at + 1:]
+        return lines[:at] + [head + b" " + first, b"d data - " + rest] + lines[at + 1:]

@@ -1,6 +1,6 @@
 """tools/record_corpus.py REFERENCE: records tests/corpus/, what the reference program in that folder answers.
 
-400 whole sessions with their reports (300 of at most 60 lines, 100 longer ones), 300 resources with their values or
+400 sessions with their reports (300 of at most 60 lines, 100 longer ones), 300 resources with their values or
 reasons, and 200 damaged sessions with their first faults. The checks compare with them everywhere, and with a
 reference beside they go on to random ones.
 """
@@ -20,16 +20,16 @@ RESOURCES, DAMAGED = 300, 200
 
 
 def histories(reference):
-    """Whole sessions with their reports: short ones, and some that are longer."""
+    """Sessions with their reports: short ones, and some that are longer."""
     short = long = number = 0
     while short < SHORT or long < LONG:
         number += 1
-        text = reference.whole_session(number)
+        text = reference.random_session(number)
         is_short = text.count(b"\n") <= MOST_LINES
         if (short if is_short else long) >= (SHORT if is_short else LONG):
             continue
         short, long = short + is_short, long + (not is_short)
-        yield {"name": f"session {number}", "session": text, "report": reference.whole_report(text)}
+        yield {"name": f"session {number}", "session": text, "report": reference.report_of(text)}
 
 
 def resources(reference):

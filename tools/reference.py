@@ -4,8 +4,8 @@ import importlib
 import pathlib
 import sys
 
-# What the reference calls the whole client, without what a later part adds.
-WHOLE = 13
+# What the reference calls this client, without what a later part adds.
+STAGE = 13
 
 
 def modules_of(folder, *names):
@@ -61,13 +61,13 @@ class Reference:
         history.apply(0, ("sweep",))
         return history
 
-    def whole_session(self, number):
-        """The random session of a number, for the whole client."""
-        return self.fuzz(number, WHOLE)
+    def random_session(self, number):
+        """The random session of a number."""
+        return self.fuzz(number, STAGE)
 
-    def whole_report(self, text):
-        """The report of a session, played by the whole client, or its first fault."""
+    def report_of(self, text):
+        """The report of a session, or its first fault."""
         try:
-            return self.report(self.play(self.read_session(text, WHOLE), WHOLE))
+            return self.report(self.play(self.read_session(text, STAGE), STAGE))
         except self.SessionFault as fault:
             return f"session line {fault.line}: {fault.cause}\n"

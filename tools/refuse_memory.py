@@ -6,18 +6,18 @@
 Each session is played once for each request of a kind that it makes: `memory` (a call of malloc or the like, by any
 thread, answers that there is none), `read` and `write` (standard input or output fails), `interrupt` (a read or write is
 broken off), `short` (a read or write of several bytes moves one) and `thread` (a thread can't be started). With no kind
-it is all of them; with no session the four that are worked in examples/: a plain path, a route that moves under a
+it is all of them; with no session the four that are worked in examples/: a first path, a route that moves under a
 call, a failover, and a channel with two authorities. With --sample N it is N requests of each kind, spread evenly; with
 --least N a session that makes fewer requests of a kind is wrong; with --onward all later requests of the kind fail too
 (but for `interrupt`, where a program would try for ever).
 
-What is wanted, where the whole report is what the session gives without a fault:
+What is wanted, where the full report is what the session gives without a fault:
 
-    memory             `out of memory` after a front of the whole report, or the whole report
+    memory             `out of memory` after a prefix of the full report, or the full report
     read               `read fault` and nothing is written
-    write              `write fault` after a front of the whole report
-    interrupt          the whole report: a read or write that was broken off is made again
-    short, thread      the whole report
+    write              `write fault` after a prefix of the full report
+    interrupt          the full report: a read or write that was broken off is made again
+    short, thread      the full report
 
 Each line of a session waits for the line before, so that there is one report, also with callers on threads. For each
 session and kind it prints how many requests there were, and how many runs ended in which way. The status is 1 where a
@@ -70,17 +70,17 @@ def spread(count, sample):
     return sorted({1 + place * (count - 1) // (sample - 1) for place in range(sample)})
 
 
-def judged(kind, end, out, whole):
-    """How a run ended, and whether that is as it should be."""
-    is_whole, is_front = end == "done" and out == whole, whole.startswith(out)
-    name = "whole" if is_whole else f"{end} after a front" if is_front and out else end
+def judged(kind, end, out, full):
+    """How a run ended, and whether that is as it should be. `full` is the full report."""
+    is_full, is_prefix = end == "done" and out == full, full.startswith(out)
+    name = "full report" if is_full else f"{end} after a prefix" if is_prefix and out else end
     if kind in ("interrupt", "short", "thread"):
-        return name, is_whole
+        return name, is_full
     if kind == "memory":
-        return name, is_whole or end == "out of memory" and is_front
+        return name, is_full or end == "out of memory" and is_prefix
     if kind == "read":
         return name, end == "read fault" and not out
-    return name, end == "write fault" and is_front
+    return name, end == "write fault" and is_prefix
 
 
 class Sweep:

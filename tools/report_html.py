@@ -159,11 +159,11 @@ def pick_name(reply: model.Reply) -> str:
 
 def pick_look(reply: model.Reply) -> str:
     looks = {model.PickedEndpoint: "good", model.Queue: "slow", model.Fail: "bad", model.Drop: "bad"}
-    return looks.get(type(reply), "plain")
+    return looks.get(type(reply), "quiet")
 
 
 def look(moment: Moment) -> str:
-    """How an entry looks: `good`, `bad`, `slow`, `news` or `plain`."""
+    """How an entry looks: `good`, `bad`, `slow`, `news` or `quiet`."""
     entry, reply = moment.entry, moment.entry.reply
     if isinstance(reply, model.Verdict):
         return "good" if reply.word == "ack" else "bad"
@@ -173,4 +173,4 @@ def look(moment: Moment) -> str:
         return "bad"
     if isinstance(entry.event, model.StreamEvent) and entry.event.word == "lost":
         return "slow"
-    return "news" if entry.snapshot or moment.requests else "plain"
+    return "news" if entry.snapshot or moment.requests else "quiet"

@@ -34,26 +34,26 @@ class Fault(Exception):
 
 # Escapes: all bytes but ASCII 0x21 to 0x7E, and of these `%`, `,`, `=` and `|`.
 
-PLAIN_TEXT = re.compile(r"[!-$&-+\--<>-{}~]*")
-PLAIN_BYTES = frozenset(range(0x21, 0x7F)) - frozenset(b"%,=|")
+UNESCAPED_TEXT = re.compile(r"[!-$&-+\--<>-{}~]*")
+UNESCAPED_BYTES = frozenset(range(0x21, 0x7F)) - frozenset(b"%,=|")
 
 
 @functools.lru_cache(maxsize=65536)
 def escape(text: str) -> str:
     """The text as a report has it."""
-    if PLAIN_TEXT.fullmatch(text):
+    if UNESCAPED_TEXT.fullmatch(text):
         return text
     encoded = text.encode("utf-8", "surrogateescape")
-    return "".join(chr(byte) if byte in PLAIN_BYTES else f"%{byte:02X}" for byte in encoded)
+    return "".join(chr(byte) if byte in UNESCAPED_BYTES else f"%{byte:02X}" for byte in encoded)
 
 
 @functools.lru_cache(maxsize=65536)
 def unescape(text: str) -> str | None:
     """The text that a report has as `text`, None where no text is escaped so."""
-    if PLAIN_TEXT.fullmatch(text):
+    if UNESCAPED_TEXT.fullmatch(text):
         return text
-    plain = urllib.parse.unquote_to_bytes(text).decode("utf-8", "surrogateescape")
-    return plain if escape(plain) == text else None
+    unescaped = urllib.parse.unquote_to_bytes(text).decode("utf-8", "surrogateescape")
+    return unescaped if escape(unescaped) == text else None
 
 
 def authority_text(authority: str | None) -> str:

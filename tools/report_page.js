@@ -113,7 +113,7 @@ function badges(text) {
   const found = /^\d+ \d+ \S+ (?:response|bytes|lost|pick) \S+ (\w+)/.exec(text);
   if (!found || found[1] === "ok") return [];
   const names = {ack: "ACK", nack: "NACK", toolong: "too long", notheld: "not held"};
-  const looks = {ack: "good", endpoint: "good", queue: "slow", ignored: "plain", closed: "plain", notheld: "plain"};
+  const looks = {ack: "good", endpoint: "good", queue: "slow", ignored: "quiet", closed: "quiet", notheld: "quiet"};
   return [badge(looks[found[1]] || "bad", names[found[1]] || found[1])];
 }
 
@@ -145,7 +145,7 @@ function lineHeader(entry) {
   return made;
 }
 
-const LOOKS = ["bad", "slow", "good", "call", "news", "plain"];
+const LOOKS = ["bad", "slow", "good", "call", "news", "quiet"];
 
 // The card of a session line's entries, which stand one after another.
 function entryCard(numbers) {
@@ -218,7 +218,7 @@ function takesEntry(wanted, number) {
   if (wanted.lines && (entry[LINE] < wanted.lines[0] || entry[LINE] > wanted.lines[1])) return false;
   if (wanted.clusters && !entry[TOUCHES].some(cluster => wanted.clusters.has(cluster))) return false;
   if (wanted.call === undefined || wanted.call !== null && !isOfCall(data.calls[wanted.call], number, entry)) return false;
-  if (wanted.quiet && entry[LOOK] === "plain") return false;
+  if (wanted.quiet && entry[LOOK] === "quiet") return false;
   return !wanted.text || entryTexts(entry).some(text => text.toLowerCase().includes(wanted.text));
 }
 

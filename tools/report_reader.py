@@ -54,10 +54,10 @@ class Words:
         return int(word)
 
     def unescape(self, word: str, what: str) -> str:
-        plain = model.unescape(word)
-        if plain is None:
+        text = model.unescape(word)
+        if text is None:
             raise self.fault(f"`{word}` isn't escaped as a report escapes {what}")
-        return plain
+        return text
 
     def text(self, what: str) -> str:
         return self.unescape(self.take(what), what)

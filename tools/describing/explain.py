@@ -19,7 +19,7 @@ class Event:
 
 
 class Stretch:
-    """Data lines of one authority whose bytes together are whole frames, or after which no whole frame follows."""
+    """Data lines of one authority whose bytes together are complete frames, or after which no complete frame follows."""
 
     def __init__(self):
         self.lines, self.data = [], b""
@@ -60,7 +60,7 @@ def bootstrap(text):
 
 
 def has_odd_number(value):
-    """Whether a value has a number that isn't a plain whole one."""
+    """Whether a value has a number that isn't written as a whole number."""
     if isinstance(value, dict):
         return any(map(has_odd_number, value.values()))
     return any(map(has_odd_number, value)) if isinstance(value, list) else isinstance(value, Number)
@@ -251,7 +251,7 @@ def number(text, line):
 
 
 def cut(data):
-    """The whole frames that some bytes begin with, and the bytes after them."""
+    """The complete frames that some bytes begin with, and the bytes after them."""
     frames, at = [], 0
     while at + 5 <= len(data) and data[at] == 0:
         end = at + 5 + int.from_bytes(data[at + 1:at + 5], "big")

@@ -174,7 +174,7 @@ def compile_proto():
 def other_fields(message):
     """The bytes of the fields that aren't listed."""
     known = message.DESCRIPTOR.fields_by_number
-    return b"".join(whole for number, _, _, whole in fields(message.SerializeToString()) if number not in known)
+    return b"".join(field for number, _, _, field in fields(message.SerializeToString()) if number not in known)
 
 
 def refuse_odd_texts(descriptor, data):
@@ -261,7 +261,7 @@ class Filling:
             self.fill(message, value, path)
 
     def fill_any(self, message, value, path, default=None):
-        """Sets an Any from an object with its `@type`, from a plain one of the default type, or from `type_url` and
+        """Sets an Any from an object with its `@type`, from one without it, of the default type, or from `type_url` and
         `value` (base64). The content of a type that isn't known is left out, and noted."""
         if not isinstance(value, dict):
             raise Problem(path, "an object, with its @type, is wanted here")

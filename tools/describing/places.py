@@ -21,7 +21,7 @@ class Missing(Exception):
 
 
 class Number(str):
-    """A number that isn't written as a plain whole number, as it is written."""
+    """A number that isn't written as a whole number, as it is written."""
 
 
 class Document:

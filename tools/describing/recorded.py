@@ -20,7 +20,7 @@ def data_lines(authority, data, framing=None):
         if fits and end > nearest:
             nearest, near = end, name
     if near:
-        raise Problem((), f"from byte {nearest} on no whole message follows in the framing {near}")
+        raise Problem((), f"from byte {nearest} on no complete message follows in the framing {near}")
     raise Problem((), "these aren't responses in any of the framings " + ", ".join(FRAMINGS))
 
 
