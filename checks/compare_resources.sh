@@ -1,5 +1,5 @@
 # Compares the check of resources with 300 recorded answers, and, where there is a reference program, with it over 5,000
-# random and damaged resources: both tell the same value or reason. XDS_REFERENCE names the folder of the reference.
+# random and damaged resources: both tell the same value or reason.
 set -euo pipefail
 cd "$(dirname "$0")/.."
 . tests/reference.sh

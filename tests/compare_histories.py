@@ -4,9 +4,8 @@ ones, and with those of a reference program.
 PROGRAM is xds_replay, which is called with the word `run`. It plays the 400 sessions of the corpus. REFERENCE is the
 folder of a reference, which plays sessions and makes random ones: COUNT random sessions (10,000 if none is given) of at
 most MOST lines (60 if none is given), those from number FIRST on, each fifth one of them once more with some damage, and
-the worked sessions of the folder `rows` beside the reference, are played by both. Each report is the same byte for byte,
-or the first fault and its line are. A worked session with a report of its own (`.expected`, and no `.stage`, which marks a
-report of a part of the program) is compared with that report too.
+the worked sessions beside the reference, are played by both. Each report is the same byte for byte, or the first fault and
+its line are. A worked session with a report of its own is compared with that report too.
 """
 
 import pathlib
@@ -42,20 +41,6 @@ def damaged(number, text):
     for _ in range(damage.r.choice([1, 1, 1, 2, 3])):
         text = damage.of_session(text)
     return text
-
-
-def worked_sessions(folder):
-    """The worked sessions of a folder, each with its name."""
-    for path in sorted(folder.glob("*.session")):
-        yield path.stem, path.read_bytes()
-
-
-def own_report(folder, name):
-    """The report that stands beside a worked session, if there is one of all of the program."""
-    path = folder / f"{name}.expected"
-    if path.exists() and not (folder / f"{name}.stage").exists():
-        return path.read_text()
-    return None
 
 
 def told(program, text):
@@ -101,12 +86,11 @@ def compare_recorded(program, comparison):
 
 def compare_with(folder, program, choice, comparison):
     """The worked sessions beside a reference, and random ones."""
-    reference, rows = Reference(folder), pathlib.Path(folder).resolve().parent / "rows"
+    reference = Reference(folder)
     before = comparison.equal + comparison.bad
-    for name, text in worked_sessions(rows):
+    for name, text, own in reference.worked_sessions():
         got = told(program, text)
         comparison.compare(name, got, reference.report_of(text))
-        own = own_report(rows, name)
         if own is not None and not got.startswith("session line"):
             comparison.compare(f"{name}.expected", got, own)
     worked, entries, faults = comparison.equal + comparison.bad - before, 0, 0

@@ -15,7 +15,7 @@ Two runs agree where both write the same report, or both refuse the session for 
 probe_session, which reads sessions and plays none, where both refuse it for them, or none does. Versions of `regex`
 don't refuse the same patterns; inputs in which the two refuse other ones are counted apart (`other patterns`). Without a
 reference program each run is to write a report that ends, or to refuse the session; each resource is judged. (The
-reference is called as xds_replay is. XDS_YARDSTICK names it; else it is ../shared/yardstick/xds_yardstick, if there.)
+reference is called as xds_replay is; tools/reference.py knows where it is.)
 
 The inputs of a seed are the same at each run. It stops at the first difference, whose session is made shorter and kept in
 --keep (fuzz_found.session), with status 1; else after --count inputs or --seconds, with status 0. The last line says how
@@ -37,9 +37,9 @@ sys.path.insert(0, str(pathlib.Path(__file__).resolve().parent.parent / "tests")
 import corpus  # noqa: E402
 import mutation  # noqa: E402
 import player  # noqa: E402
+import reference as adapter  # noqa: E402
 import wire  # noqa: E402
 
-REFERENCE = os.environ.get("XDS_YARDSTICK", player.HOME.parent / "shared/yardstick/xds_yardstick")
 BATCH, TRIES = 1_000, 200
 OTHER_PATTERNS = "other patterns"
 URLS = {"listener": wire.LISTENER, "route": wire.ROUTE, "cluster": wire.CLUSTER, "endpoint": wire.ENDPOINT}
@@ -277,7 +277,7 @@ def words():
                                      formatter_class=argparse.RawDescriptionHelpFormatter)
     parser.add_argument("--kind", default="session", choices=["session", "bootstrap", "message", "resource"])
     parser.add_argument("--program", help="a program of this repository; xds_replay, or probe_resource, where none is named")
-    parser.add_argument("--reference", default=REFERENCE, metavar="FILE", help="the reference program")
+    parser.add_argument("--reference", default=adapter.program()[0], metavar="FILE", help="the reference program")
     parser.add_argument("--seed", type=int, default=1, metavar="N")
     parser.add_argument("--count", type=int, default=10 ** 12, metavar="N", help="how many inputs")
     parser.add_argument("--seconds", type=float, default=60, metavar="N", help="for how long")

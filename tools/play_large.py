@@ -5,9 +5,9 @@
 
 Each case, or each that is named, is played by a program of this repository (xds_replay where none is named) with a stack
 of 256 KiB (of 512 KiB for patterns), for its main thread and for each thread that it starts. The session is refused or its report is written, and
-the peak memory stays below the case's bound. Where there is a reference program, which is called as xds_replay is
-(XDS_YARDSTICK, or ../shared/yardstick/xds_yardstick), it plays the case too, and the reports are the same; where callers
-run on threads, their last lines are. The status is 1 where a case isn't so.
+the peak memory stays below the case's bound. Where there is a reference program that is called as xds_replay is (by
+tools/reference.py), it plays the case too, and the reports are the same; where callers run on threads, their last lines
+are. The status is 1 where a case isn't so.
 """
 
 import argparse
@@ -25,8 +25,7 @@ import time
 sys.path.insert(0, str(pathlib.Path(__file__).resolve().parent))
 import hostile_sessions  # noqa: E402
 import player  # noqa: E402
-
-REFERENCE = os.environ.get("XDS_YARDSTICK", player.HOME.parent / "shared/yardstick/xds_yardstick")
+import reference as adapter  # noqa: E402
 
 
 @dataclasses.dataclass
@@ -87,7 +86,7 @@ def words():
     parser.add_argument("--program", default="xds_replay", help="a program of this repository that plays sessions")
     parser.add_argument("--stack", type=int, metavar="KIB", help="the stack of each thread, in place of the case's")
     parser.add_argument("--seconds", type=int, default=120, metavar="N", help="how long a case may take")
-    parser.add_argument("--reference", default=REFERENCE, metavar="FILE", help="the reference program")
+    parser.add_argument("--reference", default=adapter.program()[0], metavar="FILE", help="the reference program")
     parser.add_argument("case", nargs="*", metavar="CASE", help="a case, by its name")
     return parser.parse_args()
 

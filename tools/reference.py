@@ -1,11 +1,33 @@
-"""What is called of a reference program: its reader, its check of resources, its playing, and its random sessions."""
+"""The reference program, of which this file alone knows where it stands and what it is made of.
+
+    python3 tools/reference.py              prints the folder of the reference
+    python3 tools/reference.py --program    prints the reference program that is called as xds_replay is, and quick
+
+The folder has a reader of sessions, a check of resources, a client that plays sessions, and random sessions; beside it stand
+worked sessions. XDS_REFERENCE names another folder than the one beside this repository, and XDS_YARDSTICK another program.
+Where there is none, it says where it looked, on standard error with status 1.
+"""
 
 import importlib
+import os
 import pathlib
 import sys
 
+BESIDE = pathlib.Path(__file__).resolve().parent.parent.parent / "shared"
 # What the reference calls this client, without what a later part adds.
 STAGE = 13
+
+
+def folder():
+    """Where the folder of the reference is or should be, and whether it is there."""
+    path = pathlib.Path(os.environ.get("XDS_REFERENCE") or BESIDE / "oracle")
+    return path, (path / "oracle.py").exists()
+
+
+def program():
+    """Where the program that is called as xds_replay is or should be, and whether it is there."""
+    path = pathlib.Path(os.environ.get("XDS_YARDSTICK") or BESIDE / "yardstick/xds_yardstick")
+    return path, path.exists()
 
 
 def modules_of(folder, *names):
@@ -25,6 +47,7 @@ class Reference:
     """The reference program in a folder."""
 
     def __init__(self, folder):
+        self.rows = pathlib.Path(folder).resolve().parent / "rows"
         sys.dont_write_bytecode = True
         sys.setrecursionlimit(10_000)
         check, fuzz, history, patterns, play, report, session, wire = modules_of(
@@ -71,3 +94,24 @@ class Reference:
             return self.report(self.play(self.read_session(text, STAGE), STAGE))
         except self.SessionFault as fault:
             return f"session line {fault.line}: {fault.cause}\n"
+
+    def worked_sessions(self):
+        """The worked sessions beside the reference: the name of each, its text, and its report where there is one of its own.
+        (A `.stage` marks a report of a part of the program.)"""
+        for path in sorted(self.rows.glob("*.session")):
+            own = path.with_suffix(".expected")
+            is_own = own.exists() and not path.with_suffix(".stage").exists()
+            yield path.stem, path.read_bytes(), own.read_text() if is_own else None
+
+
+def main():
+    if sys.argv[1:] not in ([], ["--program"]):
+        sys.exit(__doc__)
+    path, is_there = program() if sys.argv[1:] else folder()
+    if not is_there:
+        sys.exit(f"there is no reference program at {path}")
+    print(path)
+
+
+if __name__ == "__main__":
+    main()
