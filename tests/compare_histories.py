@@ -1,13 +1,17 @@
-"""tests/compare_histories.py PROGRAM [REFERENCE [COUNT [FIRST [MOST]]]]: compares the reports of a program with recorded
-ones, and with those of a reference program.
+"""tests/compare_histories.py PROGRAM [REFERENCE [COUNT [FIRST [MOST [LONG]]]]]: compares the reports of a program with
+recorded ones, and with those of a reference program.
 
 PROGRAM is xds_replay, which is called with the word `run`. It plays the 400 sessions of the corpus. REFERENCE is the
 folder of a reference, which plays sessions and makes random ones: COUNT random sessions (10,000 if none is given) of at
-most MOST lines (60 if none is given), those from number FIRST on, each fifth one of them once more with some damage, and
-the worked sessions beside the reference, are played by both. Each report is the same byte for byte, or the first fault and
-its line are. A worked session with a report of its own is compared with that report too.
+most MOST lines (60 if none is given), those from number FIRST on, the first LONG (300 if none is given) of those between
+that have more lines, up to 300, each eighth number once more with some damage, and the worked sessions beside the
+reference, are played by both. Each report is the same byte for byte, or the first fault and its line are. A worked session
+with a report of its own is compared with that report too. Up to four processes make and play the sessions.
 """
 
+import itertools
+import multiprocessing
+import os
 import pathlib
 import random
 import subprocess
@@ -19,20 +23,22 @@ import corpus  # noqa: E402
 import mutation  # noqa: E402
 from reference import Reference  # noqa: E402
 
-COUNT, FIRST, MOST = 10_000, 1, 60
+COUNT, FIRST, MOST, LONG = 10_000, 1, 60, 300
+MOST_OF_LONG, EACH_DAMAGED, BATCH = 300, 8, 400
 
 
-def random_sessions(reference, count, first, most):
-    """So many sessions of at most so many lines, each with its number."""
-    number = first
-    while count > 0:
-        text = reference.random_session(number)
-        if text.count(b"\n") <= most:
-            count -= 1
-            yield f"session {number}", text
-            if number % 5 == 0:
-                yield f"session {number} with damage", damaged(number, text)
-        number += 1
+def chosen(numbered, left, most):
+    """Of random sessions with their numbers those that are played, each with its name: some of at most so many lines, and some
+    that are longer. `left` has how many are still wanted of both, and is counted down."""
+    for number, text in numbered:
+        lines = text.count(b"\n")
+        kind = "short" if lines <= most else "long"
+        if left[kind] == 0 or lines > max(most, MOST_OF_LONG):
+            continue
+        left[kind] -= 1
+        yield f"session {number}", text
+        if number % EACH_DAMAGED == 0:
+            yield f"session {number} with damage", damaged(number, text)
 
 
 def damaged(number, text):
@@ -84,6 +90,31 @@ def compare_recorded(program, comparison):
     print(f"{comparison.equal + comparison.bad} recorded sessions")
 
 
+class Players:
+    """The program and the reference, in processes that make sessions and play them by both."""
+
+    def __init__(self, program, reference):
+        # (the processes begin as copies of this one, and find both here)
+        Players.program, Players.reference = program, reference
+        self.pool = multiprocessing.get_context("fork").Pool(min(4, os.cpu_count() or 1))
+
+    @staticmethod
+    def made(number):
+        return number, Players.reference.random_session(number)
+
+    @staticmethod
+    def played(named):
+        name, text = named
+        return name, told(Players.program, text), Players.reference.report_of(text)
+
+    def random_plays(self, count, first, most, long):
+        """Random sessions, each with its name and its two reports."""
+        left, numbers = {"short": count, "long": long}, itertools.count(first)
+        while left["short"]:
+            texts = self.pool.map(self.made, itertools.islice(numbers, BATCH), chunksize=10)
+            yield from self.pool.map(self.played, chosen(texts, left, most), chunksize=10)
+
+
 def compare_with(folder, program, choice, comparison):
     """The worked sessions beside a reference, and random ones."""
     reference = Reference(folder)
@@ -94,11 +125,10 @@ def compare_with(folder, program, choice, comparison):
         if own is not None and not got.startswith("session line"):
             comparison.compare(f"{name}.expected", got, own)
     worked, entries, faults = comparison.equal + comparison.bad - before, 0, 0
-    for name, text in random_sessions(reference, *choice):
-        wanted = reference.report_of(text)
+    for name, got, wanted in Players(program, reference).random_plays(*choice):
         entries += wanted.count("\n")
         faults += wanted.startswith("session line")
-        comparison.compare(name, told(program, text), wanted)
+        comparison.compare(name, got, wanted)
     randoms = comparison.equal + comparison.bad - before - worked
     print(f"{worked} comparisons of worked sessions, {randoms} random sessions with {entries} lines of reports, {faults} faults")
 
@@ -108,7 +138,7 @@ def main():
     compare_recorded(program, comparison)
     if len(sys.argv) > 2:
         given = [int(word) for word in sys.argv[3:]]
-        compare_with(sys.argv[2], program, given + [COUNT, FIRST, MOST][len(given):], comparison)
+        compare_with(sys.argv[2], program, given + [COUNT, FIRST, MOST, LONG][len(given):], comparison)
     print(f"{comparison.equal} equal, {comparison.bad} differ")
     return comparison.bad > 0
 
