@@ -92,6 +92,72 @@ def recorded_lines():
     yield "single", recorded.data_lines("+a", payloads[0]) == wanted[:1]
 
 
+def h2(kind, stream, body=b"", flags=0):
+    """A frame of HTTP/2 (RFC 9113, 4.1): the length in three bytes, the type, the flags, and the stream below a reserved bit."""
+    return len(body).to_bytes(3, "big") + bytes([kind, flags]) + stream.to_bytes(4, "big") + body
+
+
+DATA, HEADERS, RST_STREAM, SETTINGS, PING, GOAWAY, WINDOW_UPDATE, CONTINUATION = 0, 1, 3, 4, 6, 7, 8, 9
+END_STREAM, PADDED = 1, 8
+BEGIN = h2(SETTINGS, 0, bytes.fromhex("000300000064")) + h2(SETTINGS, 0, flags=1) + h2(WINDOW_UPDATE, 0, bytes.fromhex("0000ffff"))
+PREFACE = b"PRI * HTTP/2.0\r\n\r\nSM\r\n\r\n"
+
+
+def padded(body, size):
+    """The body of a DATA frame with so many bytes of padding (RFC 9113, 6.1)."""
+    return bytes([size]) + body + bytes(size)
+
+
+def captures():
+    """What a server sent on connections of HTTP/2, and the frames whose data lines are wanted."""
+    one, two, *_ = frames()
+    yield "in frames as they come", BEGIN + h2(HEADERS, 1, b"\x88", 4) + b"".join(
+        h2(DATA, 1, frame) for frame in frames()) + h2(HEADERS, 1, b"\x40", END_STREAM | 4), frames()
+    yield "after the client's preface", PREFACE + BEGIN + h2(DATA, 1, one), [one]
+    yield "byte by byte", BEGIN + b"".join(h2(DATA, 1, one[at:at + 1]) for at in range(len(one))), [one]
+    yield "cut anywhere", BEGIN + b"".join([
+        h2(HEADERS, 1, b"\x88"), h2(CONTINUATION, 1, b"", 4), h2(DATA, 1, one[:3]), h2(PING, 0, bytes(8)), h2(DATA, 1),
+        h2(DATA, 1, padded(one[3:60], 7), PADDED), h2(DATA, 1, padded(b"", 2), PADDED), h2(0xAA, 1, b"unknown"),
+        h2(DATA, 1 | 1 << 31, one[60:] + two + one[:9]),
+        h2(DATA, 1, padded(one[9:], 0), PADDED | END_STREAM), h2(GOAWAY, 0, bytes(8))]), [one, two, one]
+    yield "on two streams", BEGIN + b"".join([
+        h2(DATA, 1, one[:50]), h2(DATA, 3, two[:70]), h2(DATA, 1, one[50:]), h2(DATA, 3, two[70:])]), [one, two]
+    yield "after a stream that broke off", BEGIN + b"".join([
+        h2(DATA, 1, two), h2(DATA, 1, one[:50]), h2(RST_STREAM, 1, bytes(4)), h2(DATA, 3, one)]), [two, one]
+    yield "beside load reports", BEGIN + h2(DATA, 3, bytes.fromhex("00000000030a0163")) + h2(DATA, 1, one), [one]
+
+
+def captured_lines():
+    """Each capture, found out and named; and those that aren't right, told by their place."""
+    for name, data, wanted in captures():
+        lines = [f"d data - {frame.hex()}" for frame in wanted]
+        yield f"a capture {name}", recorded.data_lines("-", data) == recorded.data_lines("-", data, "http2") == lines
+    one = frames()[0]
+    begun = BEGIN + h2(DATA, 1, one)
+    at_end = f"from byte {len(begun)} on no complete message follows in the framing http2"
+    for name, rest in [
+            ("that is cut in a frame", h2(DATA, 1, one)[:-1]),
+            ("that is cut in a message", h2(DATA, 1, one[:-1]) + h2(PING, 0, bytes(8))),
+            ("with padding above its frame", h2(DATA, 1, b"\x03ab", PADDED)),
+            ("with data on no stream", h2(DATA, 0, one)),
+            ("with a compressed message", h2(DATA, 1, b"\1" + one[1:]))]:
+        yield f"a capture {name}", told_problem(begun + rest) == told_problem(begun + rest, "http2") == at_end
+    request = bytes.fromhex("0000000008" "1a0161" "2203612f62")
+    none = "there are no responses in the framing http2"
+    yield "a capture without responses", told_problem(BEGIN) == none
+    yield "a capture of what the client sent", told_problem(PREFACE + BEGIN + h2(DATA, 1, request)) == none
+    later = "from byte 0 on no complete message follows in the framing http2"
+    yield "a capture from a later place on", told_problem(h2(DATA, 1, one), "http2") == later
+
+
+def told_problem(data, framing=None):
+    """What is told of recorded bytes; the data lines where nothing is wrong with them."""
+    try:
+        return recorded.data_lines("-", data, framing)
+    except Problem as problem:
+        return problem.sentence
+
+
 def camel_case(value):
     """A value with the names of its members in camelCase."""
     if isinstance(value, list):
@@ -217,6 +283,7 @@ def main():
     tried += examples(messages)
     tried += ((name, goes_both_ways(messages, name, text.encode())) for name, text in odd_sessions())
     tried += recorded_lines()
+    tried += captured_lines()
     tried += dump_lines(messages)
     for given, wanted in FAULTS:
         got = session_of(messages, "x", given)

@@ -4,7 +4,7 @@
     session.py shop.yaml                         the session of a description
     session.py --explain first_path.session      the description of a session
     session.py --from-dump config_dump.json      a description of a config dump's resources, to begin with
-    session.py --from-responses - recorded.bin   the data lines of recorded responses
+    session.py --from-responses - recorded.bin   the data lines of recorded responses, or of a capture of gRPC
 
 A description is YAML or JSON: docs/DESCRIPTIONS.md has its format. Resources stand in it in the proto3 JSON mapping,
 as config dumps, grpcdebug and control planes print them; fields that the client doesn't read are left out of the
@@ -43,8 +43,9 @@ def words():
                       help="FILE has recorded responses; write their data lines, for - (the default authority) or "
                       "+NAME")
     parser.add_argument("--framing", choices=recorded.FRAMINGS,
-                        help="how recorded responses are parted: by gRPC frames, four bytes of length, a varint, or "
-                        "not at all (a single one); else it is found out")
+                        help="how recorded responses are parted: in HTTP/2 (what the server sent on a captured "
+                        "connection), by gRPC frames, four bytes of length, a varint, or not at all (a single one); "
+                        "else it is found out")
     parser.add_argument("--json", action="store_true", help="write a description as JSON, and not as YAML")
     parser.add_argument("-o", "--output", metavar="FILE", help="write to this file, and not to standard output")
     parser.add_argument("file", metavar="FILE", help="what is read; - is standard input")
