@@ -1,15 +1,16 @@
 -- Pins and holds by call, one change on.
-use Rattle.std.proofs.Common.{◌≡◌, ◌∙◌, ℕ, ◌+◌, Bool, true, false, cond, List, [], ◌∷◌, refl, sym, ap, subst, arith, Option, Some, None}
+use Rattle.std.proofs.Common.{◌≡◌, ◌∙◌, ◌≤◌, ◌<◌, ◌^◌, ℕ, ◌+◌, length, if◌then◌else◌, Bool, true, false, cond, List, [], ◌∷◌, refl, sym, ap, subst, arith, Option, Some, None}
 use Rattle.std.specs.Prelude.{unwrap_or, sum_by, option_map, IsTrue, IsSome, ◌↔◌}
 use Rattle.std.specs.BTreeMap.{insert_entry}
 use Rattle.std.specs.Cmp.{IsTotalOrder}
 use Rattle.std.specs.List.Sorted.{IsStrictlySortedBy}
 use Rattle.std.specs.Map.{lookup, keys_of, values_of, remove_entry}
 use Rattle.std.proofs.lemmas.Cmp.{nat_cmp_total, on_total}
+use Rattle.std.proofs.lemmas.List.Sums.{sum_by-cons}
 use Rattle.std.proofs.lemmas.Map.Entries.{sum_by-insert_entry, sum_by-remove_entry}
 use Rattle.xc_base.specs.declared.names.CallId.{CallId}
 use Rattle.cluster_refs.specs.declared.pins.Pin.{Pin}
-use Rattle.cluster_refs.specs.ReferredNames.{Name, once, Raises, Lowers}
+use Rattle.cluster_refs.specs.ReferredNames.{Name, count_of, is_name, once, Raises, Lowers}
 use Rattle.cluster_refs.specs.CallReferences.{References, call_cmp, is_call, pin_of, hold_of, SetsPin, SetsHold, AreNumbered, AreKept}
 
 pub call_total : IsTotalOrder call_cmp
@@ -85,6 +86,25 @@ kept_unpin pins new_pins holds counts call kept ordered change = record {
 }
 
 -- ---- holds
+
+once_at_most : (b : Bool) → (if b then 1 else 0) ≤ 1
+once_at_most true = omega arith
+once_at_most false = omega arith
+
+held_at_most : (name : Name) (holds : List (CallId × Name)) → sum_by (once name) (values_of holds) ≤ length holds
+held_at_most name [] = omega arith
+held_at_most name (hold ∷ holds) =
+    let first = once_at_most (is_name hold.1 name) in
+    let rest = held_at_most name holds in
+    let sum = sum_by-cons (once name) hold.1 (values_of holds) in
+    omega (arith, first, rest, sum)
+
+-- a name is counted no more often than there are calls that hold one
+pub few_held : (pins : List (CallId × Pin)) (holds : List (CallId × Name)) (counts : List (Name × ℕ)) (name : Name) → AreKept pins holds counts → length holds < 2 ^ 63 → count_of counts name < 2 ^ 63
+few_held pins holds counts name kept few =
+    let counted = kept.counted name in
+    let most = held_at_most name holds in
+    omega (arith, counted, most, few)
 
 pub kept_hold : (pins : List (CallId × Pin)) (holds new_holds : List (CallId × Name)) (counts new_counts : List (Name × ℕ)) (call : CallId) (held : Name) →
     AreKept pins holds counts → lookup (is_call call) holds ≡ None → new_holds ≡ insert_entry call_cmp holds call held → IsStrictlySortedBy call_cmp (keys_of new_holds) →

@@ -1,8 +1,8 @@
 //! How many calls hold each name.
-ghost use Rattle.std.specs.Prelude.{◌≡◌, ◌↔◌, ◌<◌, ℕ, List, ◌∷◌, [], map, Contains, OnOk, OnErr, IfOk};
+ghost use Rattle.std.specs.Prelude.{◌≡◌, ◌↔◌, ◌<◌, ◌^◌, ℕ, List, ◌∷◌, [], map, Contains, OnOk, OnErr, IfOk};
 ghost use Rattle.cluster_refs.specs.ReferredNames.{count_of, Raises, Lowers};
 
-use std::alloc::{AllocError, Global};
+use std::alloc::Global;
 use std::collections::BTreeMap;
 use std::marker::Model;
 use xc_base::{List, Memory, Text};
@@ -44,13 +44,13 @@ impl Counts {
         self.counts.get(name).copied().unwrap_or(0)
     }
 
-    /// Counts the name once more.
+    /// Counts the name once more, where it is counted less than 2^63 times.
     pub(crate) fn raise(&mut self, name: &Text) -> Result<(), Memory>
+        requires room { count_of self.old name.now < 2 ^ 63 }
         ensures ok { OnOk result (Raises self.old self.new (name.now ∷ [])) }
         ensures err { OnErr result (self.new ≡ self.old) }
     {
-        let count = self.of(name);
-        let more = count.checked_add(1).ok_or(AllocError)?;
+        let more = self.of(name) + 1;
         self.counts.insert(name.clone()?, more)?;
         Ok(())
     }

@@ -82,6 +82,8 @@ impl Refs {
         ensures err { OnErr result (self.new ≡ self.old) }
     {
         let copy = name.clone()?;
+        // A name is held by no more calls than hold any, and these are fewer than 2^63.
+        let _most = self.holds.len();
         self.counts.raise(name)?;
         match insert(&mut self.holds, call, copy) {
             Ok(()) => Ok(()),

@@ -1,6 +1,7 @@
 -- A tally, one entry on, and the totals of a whole journal.
-use Rattle.std.proofs.Common.{◌≡◌, ℕ, ◌+◌, List, [], ◌∷◌, ◌++◌, filter, length, reverse, Bool, true, false, Option, Some, None, refl, sym, ap, ◌∙◌, subst, append-nil, if◌then◌else◌}
+use Rattle.std.proofs.Common.{◌≡◌, ◌<◌, ◌≤◌, ◌^◌, ◌-◌, ℕ, ◌+◌, arith, List, [], ◌∷◌, ◌++◌, filter, length, reverse, Bool, true, false, Option, Some, None, refl, sym, ap, ◌∙◌, subst, append-nil, if◌then◌else◌}
 use Rattle.std.specs.List.{cons_option, slice_get}
+use Rattle.std.specs.Str.{bytes_eq}
 use Rattle.std.proofs.lemmas.List.{length-append}
 use Rattle.std.proofs.lemmas.List.Elements.{filter-append, filter_map-append}
 use Rattle.cluster_tree.specs.declared.snapshot.Snapshot.{Snapshot}
@@ -10,10 +11,10 @@ use Rattle.config_assembly.specs.Orders.{Name}
 use Rattle.report_text.specs.ReportLines.{Shown}
 use Rattle.report_writer.specs.JournalReport.{held_after, named_in, picked_in, shown_as, shown_entries}
 use Rattle.report_writer.proofs.ReportLemmas.{all_entries, first_entries, first_more, shown_count}
-use Rattle.totals_writer.specs.Totals.{address_given, counted, given_in, how_many, is_pick, is_start, one_if, totals_of, totals_text}
-use Rattle.totals_writer.specs.Tallying.{IsTallyOf, counted_once_more, totals_in}
+use Rattle.totals_writer.specs.Totals.{address_given, counted, given_in, how_many, is_pick, is_start, one_if, times, totals_of, totals_text}
+use Rattle.totals_writer.specs.Tallying.{HasRoom, IsTallyOf, count_of, counted_once_more, totals_in}
 use Rattle.totals_writer.specs.declared.tallies.Tally.{Tally}
-use Rattle.totals_writer.proofs.CountedLemmas.{counted_more}
+use Rattle.totals_writer.proofs.CountedLemmas.{count_counted, counted_more}
 
 -- ---- one entry on
 
@@ -63,6 +64,47 @@ tally_next published entries i e snapshot cluster old new at named picked is sta
 pub tally_whole : (published : List Snapshot) (entries : List Entry) (i : ℕ) (tally : Tally) → i ≡ length entries → IsTallyOf (shown_entries published (first_entries i entries)) tally → IsTallyOf (shown_entries published entries) tally
 tally_whole published entries i tally end is =
     subst (λ es. IsTallyOf (shown_entries published es) tally) (ap (λ n. first_entries n entries) end ∙ all_entries entries) is
+
+-- ---- room for one more
+
+filtered_at_most : {X : Type 0} (b : Bool) (x : X) (kept : List X) (n : ℕ) → length kept ≤ n → length (if b then x ∷ kept else kept) ≤ n + 1
+filtered_at_most true x kept n few = omega (arith, few)
+filtered_at_most false x kept n few = omega (arith, few)
+
+kept_at_most : {X : Type 0} (kind : X → Bool) (xs : List X) → length (filter kind xs) ≤ length xs
+kept_at_most kind [] = omega arith
+kept_at_most kind (x ∷ xs) =
+    let rest = kept_at_most kind xs in
+    let most = filtered_at_most (kind x) x (filter kind xs) (length xs) rest in
+    omega (arith, most)
+
+given_at_most : (o : Option Name) (given : List Name) (n : ℕ) → length given ≤ n → length (cons_option o given) ≤ n + 1
+given_at_most None given n few = omega (arith, few)
+given_at_most (Some a) given n few = omega (arith, few)
+
+addresses_at_most : (shown : List Shown) → length (given_in shown) ≤ length shown
+addresses_at_most [] = omega arith
+addresses_at_most (x ∷ shown) =
+    let rest = addresses_at_most shown in
+    let most = given_at_most (address_given x.snapshot x.cluster x.entry.what) (given_in shown) (length shown) rest in
+    omega (arith, most)
+
+-- what is counted of fewer than 2^32 - 1 entries can grow by one
+pub has_room : (shown : List Shown) (tally : Tally) → IsTallyOf shown tally → length shown < 2 ^ 32 - 1 → HasRoom tally
+has_room shown tally is few =
+    let starts = kept_at_most (λ y. is_start y.entry.what) shown in
+    let picks = kept_at_most (λ y. is_pick y.entry.what) shown in
+    let addresses = addresses_at_most shown in
+    let started = is.starts in
+    let picked = is.picks in
+    record {
+      starts = omega (arith, starts, started, few);
+      picks = omega (arith, picks, picked, few);
+      endpoints = λ address.
+          let times : count_of tally.endpoints.entries address ≡ times address (given_in shown) = ap (λ es. count_of es address) is.endpoints ∙ count_counted address (given_in shown) in
+          let most = kept_at_most (bytes_eq address) (given_in shown) in
+          omega (arith, times, most, addresses, few);
+    }
 
 -- ---- the totals of a journal
 

@@ -1,5 +1,5 @@
 -- Totals as they are counted, one entry on.
-use Rattle.std.specs.Prelude.{◌≡◌, ℕ, ◌+◌, List, Option, Some, None, unwrap_or}
+use Rattle.std.specs.Prelude.{◌≡◌, ◌<◌, ℕ, ◌+◌, ◌-◌, ◌^◌, List, Option, Some, None, unwrap_or}
 use Rattle.std.specs.BTreeMap.{insert_entry, is_at}
 use Rattle.std.specs.Map.{lookup}
 use Rattle.config_assembly.specs.Orders.{Name, name_cmp}
@@ -15,6 +15,12 @@ count_of endpoints address = unwrap_or (lookup (is_at (name_cmp address)) endpoi
 abbrev pub counted_once_more : Option Name → List (Name × ℕ) → List (Name × ℕ)
 counted_once_more None endpoints = endpoints
 counted_once_more (Some address) endpoints = insert_entry name_cmp endpoints address (count_of endpoints address + 1)
+
+-- each count can grow by one in 32 bits
+pub record HasRoom (tally : Tally) : Type 0 where
+  pub starts : tally.starts < 2 ^ 32 - 1
+  pub picks : tally.picks < 2 ^ 32 - 1
+  pub endpoints : (address : Name) → count_of tally.endpoints.entries address < 2 ^ 32 - 1
 
 -- a tally has what is counted of these entries
 pub record IsTallyOf (shown : List Shown) (tally : Tally) : Type 0 where

@@ -1,12 +1,13 @@
 //! What entries are counted to.
-ghost use Rattle.std.specs.Prelude.{◌≡◌, ◌+◌, [], IfOk, OnOk, option_and_then, option_copied};
+ghost use Rattle.std.specs.Prelude.{◌≡◌, ◌<◌, ◌+◌, ◌-◌, ◌^◌, [], OnOk, option_and_then, option_copied};
+ghost use Rattle.config_assembly.specs.Orders.{Name};
 ghost use Rattle.totals_writer.specs.Totals.{address_given, endpoint_given, is_pick, is_start, one_if};
-ghost use Rattle.totals_writer.specs.Tallying.{count_of, counted_once_more};
+ghost use Rattle.totals_writer.specs.Tallying.{HasRoom, count_of, counted_once_more};
 
 use call_journal::{CallerEvent, CallerReply, What};
 use cluster_tree::Snapshot;
 use report_parts::pick_places::{address_of, picker_in};
-use std::alloc::{AllocError, Global};
+use std::alloc::Global;
 use std::collections::BTreeMap;
 use weighted_lb::Picker;
 use xc_base::{Address, Memory, Text};
@@ -17,13 +18,6 @@ pub struct Tally {
     pub starts: u32,
     pub picks: u32,
     pub endpoints: BTreeMap<Address, u32>,
-}
-
-/// The number after a count. It answers want of memory where a count would not fit.
-fn one_more(count: u32) -> Result<u32, Memory>
-    ensures { IfOk result (λ n. n ≡ count + 1) }
-{
-    count.checked_add(1).ok_or(AllocError)
 }
 
 /// The address of an endpoint that a reply names by its places.
@@ -70,6 +64,7 @@ impl Tally {
 
     /// Counts the address that a pick gave, where it gave one.
     fn give(&mut self, address: Option<&Address>) -> Result<(), Memory>
+        requires room { (address : Name) → count_of self.old.endpoints.entries address < 2 ^ 32 - 1 }
         ensures starts { self.new.starts ≡ self.old.starts }
         ensures picks { self.new.picks ≡ self.old.picks }
         ensures endpoints { OnOk result (self.new.endpoints.entries ≡ counted_once_more (option_copied address.entry) self.old.endpoints.entries) }
@@ -77,18 +72,19 @@ impl Tally {
         let Some(address) = address else {
             return Ok(());
         };
-        let count = one_more(self.of(address))?;
+        let count = self.of(address) + 1;
         self.endpoints.insert(address.clone()?, count)?;
         Ok(())
     }
 
-    /// Counts an entry, which names this snapshot; at a pick its call holds this cluster.
+    /// Counts an entry, which names this snapshot; at a pick its call holds this cluster. No count is 2^32 - 1 before.
     pub fn follow(
         &mut self,
         snapshot: Option<&Snapshot>,
         cluster: Option<&Text>,
         what: &What,
     ) -> Result<(), Memory>
+        requires room { HasRoom self.old }
         ensures starts { OnOk result (self.new.starts ≡ self.old.starts + one_if (is_start what.now)) }
         ensures picks { OnOk result (self.new.picks ≡ self.old.picks + one_if (is_pick what.now)) }
         ensures endpoints { OnOk result (self.new.endpoints.entries ≡ counted_once_more (address_given (option_copied snapshot.entry) (option_copied cluster.entry) what.now) self.old.endpoints.entries) }
@@ -97,11 +93,11 @@ impl Tally {
             What::Driver { .. } => Ok(()),
             What::Caller { event, reply } => match event {
                 CallerEvent::Pin(_) => {
-                    self.starts = one_more(self.starts)?;
+                    self.starts += 1;
                     Ok(())
                 }
                 CallerEvent::Pick { .. } => {
-                    self.picks = one_more(self.picks)?;
+                    self.picks += 1;
                     self.give(endpoint_given(picker_in(snapshot, cluster), reply))
                 }
                 CallerEvent::Hold(_) | CallerEvent::Commit(_) => Ok(()),

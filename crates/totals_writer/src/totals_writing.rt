@@ -37,7 +37,7 @@ fn tally_of(alloc: Global, journal: &Journal, history: &History<Snapshot>) -> Re
 
 /// Writes the totals of a session of n rounds, whose journal and published snapshots these are, in one pass and one line at
 /// a time. After a fault a prefix of them is written. `WriteFault` comes only where the sink's count of faults rose, and
-/// `Memory` where the counts or their text had no room.
+/// `Memory` where the counts or their text found no memory.
 pub fn write_totals<K: Sink>(
     alloc: Global,
     n: u32,

@@ -1,9 +1,14 @@
-use Rattle.std.proofs.Common.{◌≡◌, ◌∙◌, ap, rules, None}
+use Rattle.std.proofs.Common.{◌≡◌, ◌∙◌, ◌<◌, ◌^◌, ap, arith, length, rules, None}
 use Rattle.std.specs.Map.{lookup}
 use Rattle.std.specs.BTreeMap.{insert_entry}
 use Rattle.cluster_refs.specs.CallReferences.{is_call, call_cmp}
-use Rattle.cluster_refs.proofs.CallLemmas.{kept_hold}
+use Rattle.cluster_refs.proofs.CallLemmas.{few_held, kept_hold}
 use Rattle.cluster_refs.proofs.refs.Refs.hold.Goals as goal
+
+pub raise-requires : goal.raise-requires
+raise-requires c =
+    let few : length c.self.inside.holds.entries < 2 ^ 63 = omega (arith, c.len-most.ensures.len, c.len-most.ensures.small) in
+    record { room = few_held c.self.inside.pins.entries c.self.inside.holds.entries c.self.inside.counts c.args.name.now c.self.invariant few }
 
 pub invariant_of-self-in-Ok : goal.invariant_of-self-in-Ok
 invariant_of-self-in-Ok c =
