@@ -72,7 +72,3 @@ each_escaped (b ∷ bs) =
 pub escaped_by_set : (name : List ℕ) → percent_encode ESCAPED name ≡ escaped name
 unfolding percent_encode escaped
 escaped_by_set name = each_escaped name
-
--- text that was added to none
-pub added : (out before text made : List ℕ) → out ≡ before ++ text → before ≡ [] → text ≡ made → out ≡ made
-added out before text made is none same = is ∙ ap (λ xs. xs ++ text) none ∙ same

@@ -1,36 +1,36 @@
 //! The line of a caller's entry.
-ghost use Rattle.std.specs.Prelude.{◌≡◌, [], IfOk, option_and_then, option_copied, string_bytes, unwrap_or};
+ghost use Rattle.std.specs.Prelude.{◌≡◌, ◌++◌, [], OnOk, option_and_then, option_copied, string_bytes, unwrap_or};
 ghost use Rattle.report_parts.specs.Callers.{address_of, answer_text, caller_event_text, caller_line, caller_reply_text, category_of, cluster_in, drop_reply, endpoint_reply};
 
 use crate::pick_places::{address_of, category_of, picker_in};
-use crate::report_words::name_text;
+use crate::report_words::push_name;
 use call_journal::{CallerEvent, CallerReply};
 use cluster_tree::Snapshot;
 use route_match::{RouteAnswer, cluster_of};
-use std::alloc::Global;
+use std::fmt::Write;
 use weighted_lb::Picker;
 use xc_base::{Address, Memory, Text};
 
-/// What a caller's event is, with the number of its call.
-fn event_text(alloc: Global, event: &CallerEvent) -> Result<String, Memory>
-    ensures { IfOk result (λ s. string_bytes s ≡ caller_event_text event.now) }
+/// Adds what a caller's event is, with the number of its call.
+fn push_event(out: &mut String, event: &CallerEvent) -> Result<(), Memory>
+    ensures { OnOk result (string_bytes out.new ≡ string_bytes out.old ++ caller_event_text event.now) }
 {
     match event {
         CallerEvent::Pin(call) => {
             let id = call.get().id.0;
-            format!(in alloc; "pin {id}")
+            write!(out, "pin {id}")
         }
         CallerEvent::Hold(call) => {
             let id = call.get().id.0;
-            format!(in alloc; "hold {id}")
+            write!(out, "hold {id}")
         }
         CallerEvent::Pick { call, .. } => {
             let id = call.0;
-            format!(in alloc; "pick {id}")
+            write!(out, "pick {id}")
         }
         CallerEvent::Commit(call) => {
             let id = call.0;
-            format!(in alloc; "commit {id}")
+            write!(out, "commit {id}")
         }
     }
 }
@@ -45,23 +45,22 @@ fn cluster_in<'a>(snapshot: Option<&'a Snapshot>, answer: &RouteAnswer) -> Optio
     }
 }
 
-/// What a hold is answered: the route with its cluster, or why there is none.
-fn answer_text(
-    alloc: Global,
+/// Adds what a hold is answered: the route with its cluster, or why there is none.
+fn push_answer(
+    out: &mut String,
     snapshot: Option<&Snapshot>,
     answer: &RouteAnswer,
-) -> Result<String, Memory>
-    ensures { IfOk result (λ s. string_bytes s ≡ answer_text (option_copied snapshot.entry) answer.now) }
+) -> Result<(), Memory>
+    ensures { OnOk result (string_bytes out.new ≡ string_bytes out.old ++ answer_text (option_copied snapshot.entry) answer.now) }
 {
     match answer {
         RouteAnswer::To { route, .. } => {
-            let cluster = name_text(alloc, cluster_in(snapshot, answer))?;
-            let text = format!(in alloc; "to {route} {cluster}")?;
-            Ok(text)
+            write!(out, "to {route} ")?;
+            push_name(out, cluster_in(snapshot, answer))
         }
-        RouteAnswer::NoRoute => String::from_str(alloc, "noroute"),
-        RouteAnswer::NoAction { route } => format!(in alloc; "noaction {route}"),
-        RouteAnswer::NoFront { reason } => format!(in alloc; "nofront {reason}"),
+        RouteAnswer::NoRoute => out.push_str("noroute"),
+        RouteAnswer::NoAction { route } => write!(out, "noaction {route}"),
+        RouteAnswer::NoFront { reason } => write!(out, "nofront {reason}"),
     }
 }
 
@@ -82,22 +81,22 @@ fn address_word(address: Option<&Address>) -> &str
     }
 }
 
-/// What a pick of an endpoint is answered, with the places of the endpoint.
-fn endpoint_reply(
-    alloc: Global,
+/// Adds what a pick of an endpoint is answered, with the places of the endpoint.
+fn push_endpoint_reply(
+    out: &mut String,
     picker: Option<&Picker>,
     snapshot: u32,
     child: u32,
     locality: u32,
     place: u32,
-) -> Result<String, Memory>
-    ensures { IfOk result (λ s. string_bytes s ≡ endpoint_reply (option_copied picker.entry) snapshot child locality place) }
+) -> Result<(), Memory>
+    ensures { OnOk result (string_bytes out.new ≡ string_bytes out.old ++ endpoint_reply (option_copied picker.entry) snapshot child locality place) }
 {
     let address = address_word(picked_address(picker, locality, place));
-    let text = format!(in alloc;
+    write!(
+        out,
         "endpoint {address} at {snapshot} child {child} locality {locality} place {place}"
-    )?;
-    Ok(text)
+    )
 }
 
 /// The category of a rule of a picker.
@@ -107,39 +106,38 @@ fn dropped_category(picker: Option<&Picker>, rule: u32) -> Option<&Text>
     category_of(picker?, rule)
 }
 
-/// What a dropped pick is answered, with the category of the drop rule.
-fn drop_reply(
-    alloc: Global,
+/// Adds what a dropped pick is answered, with the category of the drop rule.
+fn push_drop_reply(
+    out: &mut String,
     picker: Option<&Picker>,
     snapshot: u32,
     rule: u32,
-) -> Result<String, Memory>
-    ensures { IfOk result (λ s. string_bytes s ≡ drop_reply (option_copied picker.entry) snapshot rule) }
+) -> Result<(), Memory>
+    ensures { OnOk result (string_bytes out.new ≡ string_bytes out.old ++ drop_reply (option_copied picker.entry) snapshot rule) }
 {
-    let category = name_text(alloc, dropped_category(picker, rule))?;
-    let text = format!(in alloc; "drop {category} at {snapshot}")?;
-    Ok(text)
+    out.push_str("drop ")?;
+    push_name(out, dropped_category(picker, rule))?;
+    write!(out, " at {snapshot}")
 }
 
-/// What a caller's event is answered.
-fn reply_text(
-    alloc: Global,
+/// Adds what a caller's event is answered.
+fn push_reply(
+    out: &mut String,
     snapshot: Option<&Snapshot>,
     cluster: Option<&Text>,
     reply: &CallerReply,
-) -> Result<String, Memory>
-    ensures { IfOk result (λ s. string_bytes s ≡ caller_reply_text (option_copied snapshot.entry) (option_copied cluster.entry) reply.now) }
+) -> Result<(), Memory>
+    ensures { OnOk result (string_bytes out.new ≡ string_bytes out.old ++ caller_reply_text (option_copied snapshot.entry) (option_copied cluster.entry) reply.now) }
 {
     match reply {
-        CallerReply::Pinned(number) => format!(in alloc; "at {number}"),
-        CallerReply::NoSnapshot => String::from_str(alloc, "nosnapshot"),
+        CallerReply::Pinned(number) => write!(out, "at {number}"),
+        CallerReply::NoSnapshot => out.push_str("nosnapshot"),
         CallerReply::Routed {
             snapshot: number,
             answer,
         } => {
-            let answer = answer_text(alloc, snapshot, answer)?;
-            let text = format!(in alloc; "{answer} at {number}")?;
-            Ok(text)
+            push_answer(out, snapshot, answer)?;
+            write!(out, " at {number}")
         }
         CallerReply::Endpoint {
             snapshot: number,
@@ -148,40 +146,38 @@ fn reply_text(
             place,
         } => {
             let picker = picker_in(snapshot, cluster);
-            endpoint_reply(alloc, picker, *number, *child, *locality, *place)
+            push_endpoint_reply(out, picker, *number, *child, *locality, *place)
         }
-        CallerReply::Queue { snapshot: number } => format!(in alloc; "queue at {number}"),
+        CallerReply::Queue { snapshot: number } => write!(out, "queue at {number}"),
         CallerReply::Fail {
             snapshot: number,
             reason,
-        } => {
-            let text = format!(in alloc; "fail {reason} at {number}")?;
-            Ok(text)
-        }
+        } => { write!(out, "fail {reason} at {number}") }
         CallerReply::Drop {
             snapshot: number,
             rule,
-        } => drop_reply(alloc, picker_in(snapshot, cluster), *number, *rule),
-        CallerReply::NotHeld => String::from_str(alloc, "notheld"),
-        CallerReply::Released => String::from_str(alloc, "released"),
+        } => push_drop_reply(out, picker_in(snapshot, cluster), *number, *rule),
+        CallerReply::NotHeld => out.push_str("notheld"),
+        CallerReply::Released => out.push_str("released"),
     }
 }
 
-/// The line of a caller's entry, behind its numbers: with the snapshot that the reply names, and for a
+/// Adds the line of a caller's entry, behind its numbers: with the snapshot that the reply names, and for a
 /// pick with the cluster that the call held before the entry.
 #[tactic(auto, unfolding(crate::specs::Callers::caller_line))]
-pub fn caller_line(
-    alloc: Global,
+pub fn push_caller_line(
+    out: &mut String,
     snapshot: Option<&Snapshot>,
     cluster: Option<&Text>,
     actor: u16,
     event: &CallerEvent,
     reply: &CallerReply,
-) -> Result<String, Memory>
-    ensures { IfOk result (λ s. string_bytes s ≡ caller_line (option_copied snapshot.entry) (option_copied cluster.entry) actor event.now reply.now) }
+) -> Result<(), Memory>
+    ensures { OnOk result (string_bytes out.new ≡ string_bytes out.old ++ caller_line (option_copied snapshot.entry) (option_copied cluster.entry) actor event.now reply.now) }
 {
-    let event = event_text(alloc, event)?;
-    let reply = reply_text(alloc, snapshot, cluster, reply)?;
-    let text = format!(in alloc; "c{actor} {event} {reply}\n")?;
-    Ok(text)
+    write!(out, "c{actor} ")?;
+    push_event(out, event)?;
+    out.push_str(" ")?;
+    push_reply(out, snapshot, cluster, reply)?;
+    out.push_str("\n")
 }

@@ -1,23 +1,21 @@
 //! Words that the lines of a report have in common.
-ghost use Rattle.std.specs.Prelude.{◌≡◌, IfOk, option_copied, string_bytes};
+ghost use Rattle.std.specs.Prelude.{◌≡◌, ◌++◌, OnOk, option_copied, string_bytes};
 ghost use Rattle.report_parts.specs.ReportWords.{authority_name, authority_text, escaped, kind_word, name_text, state_word};
 
 use percent_encoding::{AsciiSet, CONTROLS, ascii_set, utf8_percent_encode};
-use std::alloc::Global;
 use xc_base::{Authority, Kind, Memory, State, Text};
 use xds_bootstrap::Bootstrap;
 
 /// What is written with an escape: all but 0x21 to 0x7E, and of these `%`, `,`, `=` and `|`.
 const ESCAPED: AsciiSet = ascii_set!(CONTROLS.add(b' ').add(b'%').add(b',').add(b'=').add(b'|'));
 
-/// The text with its escapes: each byte outside 0x21 to 0x7E, and each `%`, `,`, `=` and `|`, is `%` and two
+/// Adds the text with its escapes: each byte outside 0x21 to 0x7E, and each `%`, `,`, `=` and `|`, is `%` and two
 /// upper-case hexadecimal digits, so that no name begins or ends a line.
-pub fn escaped_text(alloc: Global, text: &Text) -> Result<String, Memory>
-    ensures { IfOk result (λ s. string_bytes s ≡ escaped text.now) }
+pub fn push_escaped(out: &mut String, text: &Text) -> Result<(), Memory>
+    ensures { OnOk result (string_bytes out.new ≡ string_bytes out.old ++ escaped text.now) }
 {
-    let mut out = String::new(alloc);
-    utf8_percent_encode(text.as_str(), ESCAPED).append_to(&mut out)?;
-    Ok(out)
+    utf8_percent_encode(text.as_str(), ESCAPED).append_to(out)?;
+    Ok(())
 }
 
 /// The word of a kind.
@@ -43,13 +41,13 @@ pub fn state_word(state: State) -> &'static str
     }
 }
 
-/// A name with its escapes, or nothing where there is none.
-pub fn name_text(alloc: Global, name: Option<&Text>) -> Result<String, Memory>
-    ensures { IfOk result (λ s. string_bytes s ≡ name_text (option_copied name.entry)) }
+/// Adds a name with its escapes, or nothing where there is none.
+pub fn push_name(out: &mut String, name: Option<&Text>) -> Result<(), Memory>
+    ensures { OnOk result (string_bytes out.new ≡ string_bytes out.old ++ name_text (option_copied name.entry)) }
 {
     match name {
-        Some(name) => escaped_text(alloc, name),
-        None => Ok(String::new(alloc)),
+        Some(name) => push_escaped(out, name),
+        None => Ok(()),
     }
 }
 
@@ -61,17 +59,18 @@ fn authority_name(boot: &Bootstrap, authority: Authority) -> Option<&Text>
     Some(&entry.name)
 }
 
-/// An authority: a sign for the default one, and the name of a named one.
-pub fn authority_text(
-    alloc: Global,
+/// Adds an authority: a sign for the default one, and the name of a named one.
+pub fn push_authority(
+    out: &mut String,
     boot: &Bootstrap,
     authority: Authority,
-) -> Result<String, Memory>
-    ensures { IfOk result (λ s. string_bytes s ≡ authority_text boot.now.authorities authority) }
+) -> Result<(), Memory>
+    ensures { OnOk result (string_bytes out.new ≡ string_bytes out.old ++ authority_text boot.now.authorities authority) }
 {
     if authority.0 == 0 {
-        return String::from_str(alloc, "-");
+        out.push_str("-")?;
+        return Ok(());
     }
-    let name = name_text(alloc, authority_name(boot, authority))?;
-    format!(in alloc; "+{name}")
+    out.push_str("+")?;
+    push_name(out, authority_name(boot, authority))
 }

@@ -1,33 +1,32 @@
 //! The lines of refused patterns and of requests.
-ghost use Rattle.std.specs.Prelude.{◌≡◌, ◌++◌, IfOk, OnOk, string_bytes};
+ghost use Rattle.std.specs.Prelude.{◌≡◌, ◌++◌, OnOk, codes, string_bytes};
 ghost use Rattle.report_parts.specs.RequestText.{error_text, more_names, names_text, node_text, pattern_line, request_line, request_text};
 
-use crate::report_words::{authority_text, escaped_text, kind_word};
+use crate::report_words::{kind_word, push_authority, push_escaped};
 use call_journal::Sent;
 use proto_discovery::Request;
-use std::alloc::Global;
 use xc_base::{List, Memory, Node, Text};
 use xds_bootstrap::Bootstrap;
 
-/// The line of a pattern that was refused.
+/// Adds the line of a pattern that was refused.
 #[tactic(auto, unfolding(crate::specs::RequestText::pattern_line))]
-pub fn pattern_line(alloc: Global, pattern: &Text) -> Result<String, Memory>
-    ensures { IfOk result (λ s. string_bytes s ≡ pattern_line pattern.now) }
+pub fn push_pattern_line(out: &mut String, pattern: &Text) -> Result<(), Memory>
+    ensures { OnOk result (string_bytes out.new ≡ string_bytes out.old ++ pattern_line pattern.now) }
 {
-    let pattern = escaped_text(alloc, pattern)?;
-    let text = format!(in alloc; "  pat {pattern}\n")?;
-    Ok(text)
+    out.push_str("  pat ")?;
+    push_escaped(out, pattern)?;
+    out.push_str("\n")
 }
 
-/// The error of a request, where it refuses a response.
-fn error_text(alloc: Global, error: &Option<Text>) -> Result<String, Memory>
-    ensures { IfOk result (λ s. string_bytes s ≡ error_text error.now) }
+/// Adds the error of a request, where it refuses a response.
+fn push_error(out: &mut String, error: &Option<Text>) -> Result<(), Memory>
+    ensures { OnOk result (string_bytes out.new ≡ string_bytes out.old ++ error_text error.now) }
 {
     match error {
-        None => Ok(String::new(alloc)),
+        None => Ok(()),
         Some(error) => {
-            let error = escaped_text(alloc, error)?;
-            format!(in alloc; " err={error}")
+            out.push_str(" err=")?;
+            push_escaped(out, error)
         }
     }
 }
@@ -43,52 +42,60 @@ fn node_text(node: &Option<Node>) -> &'static str
 }
 
 /// Adds names, each behind a comma.
-fn push_names(alloc: Global, out: &mut String, names: &[Text]) -> Result<(), Memory>
+fn push_more_names(out: &mut String, names: &[Text]) -> Result<(), Memory>
     ensures { OnOk result (string_bytes out.new ≡ string_bytes out.old ++ more_names names.now) }
 {
     for name in names {
         out.push(',')?;
-        out.push_str(escaped_text(alloc, name)?.as_str())?;
+        push_escaped(out, name)?;
     }
     Ok(())
 }
 
-/// The names of a request, with a comma between two.
-fn names_text(alloc: Global, names: &List<Text>) -> Result<String, Memory>
-    ensures { IfOk result (λ s. string_bytes s ≡ names_text names.now) }
+/// Adds the names of a request, with a comma between two.
+fn push_names(out: &mut String, names: &List<Text>) -> Result<(), Memory>
+    ensures { OnOk result (string_bytes out.new ≡ string_bytes out.old ++ names_text names.now) }
 {
     match names.as_slice().split_first() {
         Some((first, more)) => {
-            let mut out = escaped_text(alloc, first)?;
-            push_names(alloc, &mut out, more)?;
-            Ok(out)
+            push_escaped(out, first)?;
+            push_more_names(out, more)
         }
-        None => Ok(String::new(alloc)),
+        None => Ok(()),
     }
 }
 
-/// What a request asks for and answers.
-#[tactic(auto, unfolding(crate::specs::RequestText::request_text))]
-fn request_text(alloc: Global, request: &Request) -> Result<String, Memory>
-    ensures { IfOk result (λ s. string_bytes s ≡ request_text request.now) }
+/// Adds the names that a request asks for, its error, and whether it has the node.
+fn push_asked(out: &mut String, request: &Request) -> Result<(), Memory>
+    ensures { OnOk result (string_bytes out.new ≡ string_bytes out.old ++ codes " names=" ++ names_text request.now.names ++ error_text request.now.error ++ node_text request.now.node) }
 {
-    let kind = kind_word(request.kind);
-    let version = escaped_text(alloc, &request.version)?;
-    let nonce = escaped_text(alloc, &request.nonce)?;
-    let names = names_text(alloc, &request.names)?;
-    let error = error_text(alloc, &request.error)?;
-    let node = node_text(&request.node);
-    let text = format!(in alloc; "{kind} v={version} n={nonce} names={names}{error}{node}")?;
-    Ok(text)
+    out.push_str(" names=")?;
+    push_names(out, &request.names)?;
+    push_error(out, &request.error)?;
+    out.push_str(node_text(&request.node))
 }
 
-/// The line of a request to an authority.
-#[tactic(auto, unfolding(crate::specs::RequestText::request_line))]
-pub fn request_line(alloc: Global, boot: &Bootstrap, sent: &Sent) -> Result<String, Memory>
-    ensures { IfOk result (λ s. string_bytes s ≡ request_line boot.now.authorities sent.now) }
+/// Adds what a request asks for and answers.
+#[tactic(auto, unfolding(crate::specs::RequestText::request_text))]
+fn push_request(out: &mut String, request: &Request) -> Result<(), Memory>
+    ensures { OnOk result (string_bytes out.new ≡ string_bytes out.old ++ request_text request.now) }
 {
-    let authority = authority_text(alloc, boot, sent.authority)?;
-    let request = request_text(alloc, &sent.request)?;
-    let text = format!(in alloc; "  req {authority} {request}\n")?;
-    Ok(text)
+    out.push_str(kind_word(request.kind))?;
+    out.push_str(" v=")?;
+    push_escaped(out, &request.version)?;
+    out.push_str(" n=")?;
+    push_escaped(out, &request.nonce)?;
+    push_asked(out, request)
+}
+
+/// Adds the line of a request to an authority.
+#[tactic(auto, unfolding(crate::specs::RequestText::request_line))]
+pub fn push_request_line(out: &mut String, boot: &Bootstrap, sent: &Sent) -> Result<(), Memory>
+    ensures { OnOk result (string_bytes out.new ≡ string_bytes out.old ++ request_line boot.now.authorities sent.now) }
+{
+    out.push_str("  req ")?;
+    push_authority(out, boot, sent.authority)?;
+    out.push_str(" ")?;
+    push_request(out, &sent.request)?;
+    out.push_str("\n")
 }

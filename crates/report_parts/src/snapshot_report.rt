@@ -1,45 +1,45 @@
 //! The line of a snapshot.
-ghost use Rattle.std.specs.Prelude.{◌≡◌, IfOk, option_copied, slice_get, string_bytes};
+ghost use Rattle.std.specs.Prelude.{◌≡◌, ◌++◌, OnOk, option_copied, slice_get, string_bytes};
 ghost use Rattle.report_parts.specs.Snapshots.{cluster_text, clusters_from, found_tree_text, front_text, front_words, snapshot_line, snapshot_lines};
 
-use crate::report_words::escaped_text;
-use crate::tree_report::tree_text;
+use crate::report_words::push_escaped;
+use crate::tree_report::push_tree;
 use cluster_tree::{Snapshot, TreeView};
-use std::alloc::Global;
+use std::fmt::Write;
 use xc_base::{Memory, Reason, Shared};
 use xds_config::{ClusterEntry, Front};
 
-/// The listener, the route configuration and the place of the host.
-fn front_words(alloc: Global, front: &Front) -> Result<String, Memory>
-    ensures { IfOk result (λ s. string_bytes s ≡ front_words front.now) }
+/// Adds the listener, the route configuration and the place of the host.
+fn push_front_words(out: &mut String, front: &Front) -> Result<(), Memory>
+    ensures { OnOk result (string_bytes out.new ≡ string_bytes out.old ++ front_words front.now) }
 {
-    let listener = escaped_text(alloc, &front.listener)?;
-    let routes = escaped_text(alloc, &front.routes.get().name)?;
+    push_escaped(out, &front.listener)?;
+    out.push_str(",")?;
+    push_escaped(out, &front.routes.get().name)?;
     let host = front.host;
-    let text = format!(in alloc; "{listener},{routes},{host}")?;
-    Ok(text)
+    write!(out, ",{host}")
 }
 
-/// The front of a configuration, or the reason why it has none.
-fn front_text(alloc: Global, front: &Result<Front, Reason>) -> Result<String, Memory>
-    ensures { IfOk result (λ s. string_bytes s ≡ front_text front.now) }
+/// Adds the front of a configuration, or the reason why it has none.
+fn push_front(out: &mut String, front: &Result<Front, Reason>) -> Result<(), Memory>
+    ensures { OnOk result (string_bytes out.new ≡ string_bytes out.old ++ front_text front.now) }
 {
     match front {
-        Ok(front) => front_words(alloc, front),
-        Err(reason) => format!(in alloc; "!{reason}"),
+        Ok(front) => push_front_words(out, front),
+        Err(reason) => write!(out, "!{reason}"),
     }
 }
 
-/// The text of trees, of which there may be none.
-fn found_tree_text(
-    alloc: Global,
+/// Adds the text of trees, of which there may be none.
+fn push_found_tree(
+    out: &mut String,
     tree: Option<&Result<Shared<TreeView>, Reason>>,
-) -> Result<String, Memory>
-    ensures { IfOk result (λ s. string_bytes s ≡ found_tree_text (option_copied tree.entry)) }
+) -> Result<(), Memory>
+    ensures { OnOk result (string_bytes out.new ≡ string_bytes out.old ++ found_tree_text (option_copied tree.entry)) }
 {
     match tree {
-        Some(tree) => tree_text(alloc, tree),
-        None => Ok(String::new(alloc)),
+        Some(tree) => push_tree(out, tree),
+        None => Ok(()),
     }
 }
 
@@ -53,56 +53,55 @@ fn tree_at(
     trees.get(place)
 }
 
-/// A cluster with its trees.
+/// Adds a cluster with its trees.
 #[tactic(auto, unfolding(crate::specs::Snapshots::cluster_text))]
-fn cluster_text(
-    alloc: Global,
+fn push_cluster(
+    out: &mut String,
     cluster: &ClusterEntry,
     tree: Option<&Result<Shared<TreeView>, Reason>>,
-) -> Result<String, Memory>
-    ensures { IfOk result (λ s. string_bytes s ≡ cluster_text cluster.now (option_copied tree.entry)) }
+) -> Result<(), Memory>
+    ensures { OnOk result (string_bytes out.new ≡ string_bytes out.old ++ cluster_text cluster.now (option_copied tree.entry)) }
 {
-    let name = escaped_text(alloc, &cluster.name)?;
-    let tree = found_tree_text(alloc, tree)?;
-    let text = format!(in alloc; " {name}={tree}")?;
-    Ok(text)
+    out.push_str(" ")?;
+    push_escaped(out, &cluster.name)?;
+    out.push_str("=")?;
+    push_found_tree(out, tree)
 }
 
-/// The clusters of a configuration with their trees.
+/// Adds the clusters of a configuration with their trees.
 #[tactic(auto, unfolding(crate::specs::Snapshots::clusters_from))]
-fn clusters_text(
-    alloc: Global,
+fn push_clusters(
+    out: &mut String,
     clusters: &[Shared<ClusterEntry>],
     trees: &[Result<Shared<TreeView>, Reason>],
-) -> Result<String, Memory>
-    ensures { IfOk result (λ s. string_bytes s ≡ clusters_from trees.now 0 clusters.now) }
+) -> Result<(), Memory>
+    ensures { OnOk result (string_bytes out.new ≡ string_bytes out.old ++ clusters_from trees.now 0 clusters.now) }
 {
-    let mut out = String::new(alloc);
     for (place, cluster) in clusters.iter().enumerate() {
-        out.push_str(cluster_text(alloc, cluster.get(), tree_at(trees, place))?.as_str())?;
+        push_cluster(out, cluster.get(), tree_at(trees, place))?;
     }
-    Ok(out)
+    Ok(())
 }
 
-/// The line of a snapshot.
+/// Adds the line of a snapshot.
 #[tactic(auto, unfolding(crate::specs::Snapshots::snapshot_line))]
-pub fn snapshot_line(alloc: Global, snapshot: &Snapshot) -> Result<String, Memory>
-    ensures { IfOk result (λ s. string_bytes s ≡ snapshot_line snapshot.now) }
+fn push_snapshot_line(out: &mut String, snapshot: &Snapshot) -> Result<(), Memory>
+    ensures { OnOk result (string_bytes out.new ≡ string_bytes out.old ++ snapshot_line snapshot.now) }
 {
     let number = snapshot.number;
     let config = snapshot.config.get();
-    let front = front_text(alloc, &config.front)?;
-    let clusters = clusters_text(alloc, config.clusters.as_slice(), snapshot.trees.as_slice())?;
-    let text = format!(in alloc; "  snap {number} front={front}{clusters}\n")?;
-    Ok(text)
+    write!(out, "  snap {number} front=")?;
+    push_front(out, &config.front)?;
+    push_clusters(out, config.clusters.as_slice(), snapshot.trees.as_slice())?;
+    out.push_str("\n")
 }
 
-/// The line of a snapshot, if there is one.
-pub fn snapshot_lines(alloc: Global, snapshot: Option<&Snapshot>) -> Result<String, Memory>
-    ensures { IfOk result (λ s. string_bytes s ≡ snapshot_lines (option_copied snapshot.entry)) }
+/// Adds the line of a snapshot, if there is one.
+pub fn push_snapshot_lines(out: &mut String, snapshot: Option<&Snapshot>) -> Result<(), Memory>
+    ensures { OnOk result (string_bytes out.new ≡ string_bytes out.old ++ snapshot_lines (option_copied snapshot.entry)) }
 {
     match snapshot {
-        Some(snapshot) => snapshot_line(alloc, snapshot),
-        None => Ok(String::new(alloc)),
+        Some(snapshot) => push_snapshot_line(out, snapshot),
+        None => Ok(()),
     }
 }

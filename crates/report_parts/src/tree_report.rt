@@ -1,11 +1,11 @@
 //! The texts of clusters' trees.
-ghost use Rattle.std.specs.Prelude.{◌≡◌, ◌++◌, ◌-◌, IfOk, length, position, string_bytes, unwrap_or};
+ghost use Rattle.std.specs.Prelude.{◌≡◌, ◌++◌, ◌-◌, OnOk, length, position, string_bytes, unwrap_or};
 ghost use Rattle.report_parts.specs.TreeText.{before_child, child_text, children_text, if_so, is_near, is_trying, tree_text, view_text, waiting_place, waiting_text};
 
-use crate::report_words::{escaped_text, state_word};
+use crate::report_words::{push_escaped, state_word};
 use cluster_tree::{NamedChild, TreeView};
 use priority_lb::ChildView;
-use std::alloc::Global;
+use std::fmt::Write;
 use xc_base::{List, Memory, Reason, Shared, State};
 
 /// A word that stands only where it holds.
@@ -15,30 +15,28 @@ fn if_so(holds: bool, word: &'static str) -> &'static str
     if holds { word } else { "" }
 }
 
-/// The state of a child with its marks.
-fn view_text(alloc: Global, view: ChildView) -> Result<String, Memory>
-    ensures { IfOk result (λ s. string_bytes s ≡ view_text view) }
+/// Adds the state of a child with its marks.
+fn push_view(out: &mut String, view: ChildView) -> Result<(), Memory>
+    ensures { OnOk result (string_bytes out.new ≡ string_bytes out.old ++ view_text view) }
 {
     if !view.there {
-        return String::from_str(alloc, "none");
+        return out.push_str("none");
     }
     let state = state_word(view.state);
     let pending = if_so(view.pending, "+");
     let unused = if_so(view.unused, "~");
-    let text = format!(in alloc; "{state}{pending}{unused}")?;
-    Ok(text)
+    write!(out, "{state}{pending}{unused}")
 }
 
-/// A child: its leaf, its priority, and its state with its marks.
+/// Adds a child: its leaf, its priority, and its state with its marks.
 #[tactic(auto, unfolding(crate::specs::TreeText::child_text))]
-fn child_text(alloc: Global, child: &NamedChild) -> Result<String, Memory>
-    ensures { IfOk result (λ s. string_bytes s ≡ child_text child.now) }
+fn push_child(out: &mut String, child: &NamedChild) -> Result<(), Memory>
+    ensures { OnOk result (string_bytes out.new ≡ string_bytes out.old ++ child_text child.now) }
 {
-    let leaf = escaped_text(alloc, &child.leaf)?;
+    push_escaped(out, &child.leaf)?;
     let priority = child.priority;
-    let view = view_text(alloc, child.view)?;
-    let text = format!(in alloc; "{leaf}/{priority}:{view}")?;
-    Ok(text)
+    write!(out, "/{priority}:")?;
+    push_view(out, child.view)
 }
 
 /// What stands before the child of this place.
@@ -53,17 +51,16 @@ fn before_child(chosen: usize, place: usize) -> &'static str
     }
 }
 
-/// The children of a tree by the place of the chosen one.
+/// Adds the children of a tree by the place of the chosen one.
 #[tactic(auto, unfolding(crate::specs::TreeText::children_from))]
-fn children_text(alloc: Global, chosen: usize, children: &[NamedChild]) -> Result<String, Memory>
-    ensures { IfOk result (λ s. string_bytes s ≡ children_text chosen children.now) }
+fn push_children(out: &mut String, chosen: usize, children: &[NamedChild]) -> Result<(), Memory>
+    ensures { OnOk result (string_bytes out.new ≡ string_bytes out.old ++ children_text chosen children.now) }
 {
-    let mut out = String::new(alloc);
     for (place, child) in children.iter().enumerate() {
         out.push_str(before_child(chosen, place))?;
-        out.push_str(child_text(alloc, child)?.as_str())?;
+        push_child(out, child)?;
     }
-    Ok(out)
+    Ok(())
 }
 
 /// Whether a child can be chosen at once.
@@ -121,36 +118,34 @@ fn waiting_place(children: &[NamedChild]) -> usize
     }
 }
 
-/// The children of the tree that waits, where one does.
-fn waiting_text(alloc: Global, waiting: &Option<List<NamedChild>>) -> Result<String, Memory>
-    ensures { IfOk result (λ s. string_bytes s ≡ waiting_text waiting.now) }
+/// Adds the children of the tree that waits, where one does.
+fn push_waiting(out: &mut String, waiting: &Option<List<NamedChild>>) -> Result<(), Memory>
+    ensures { OnOk result (string_bytes out.new ≡ string_bytes out.old ++ waiting_text waiting.now) }
 {
     match waiting {
-        None => Ok(String::new(alloc)),
+        None => Ok(()),
         Some(children) => {
             let chosen = waiting_place(children.as_slice());
-            let children = children_text(alloc, chosen, children.as_slice())?;
-            format!(in alloc; "|{children}")
+            out.push_str("|")?;
+            push_children(out, chosen, children.as_slice())
         }
     }
 }
 
-/// The trees of a cluster.
-fn trees_text(alloc: Global, tree: &TreeView) -> Result<String, Memory>
-    ensures { IfOk result (λ s. string_bytes s ≡ children_text tree.now.chosen tree.now.children ++ waiting_text tree.now.waiting) }
+/// Adds the trees of a cluster.
+fn push_trees(out: &mut String, tree: &TreeView) -> Result<(), Memory>
+    ensures { OnOk result (string_bytes out.new ≡ string_bytes out.old ++ children_text tree.now.chosen tree.now.children ++ waiting_text tree.now.waiting) }
 {
-    let children = children_text(alloc, tree.chosen as usize, tree.children.as_slice())?;
-    let waiting = waiting_text(alloc, &tree.waiting)?;
-    let text = format!(in alloc; "{children}{waiting}")?;
-    Ok(text)
+    push_children(out, tree.chosen as usize, tree.children.as_slice())?;
+    push_waiting(out, &tree.waiting)
 }
 
-/// The trees of a cluster, or the reason why it has none.
-pub fn tree_text(alloc: Global, tree: &Result<Shared<TreeView>, Reason>) -> Result<String, Memory>
-    ensures { IfOk result (λ s. string_bytes s ≡ tree_text tree.now) }
+/// Adds the trees of a cluster, or the reason why it has none.
+pub fn push_tree(out: &mut String, tree: &Result<Shared<TreeView>, Reason>) -> Result<(), Memory>
+    ensures { OnOk result (string_bytes out.new ≡ string_bytes out.old ++ tree_text tree.now) }
 {
     match tree {
-        Ok(tree) => trees_text(alloc, tree.get()),
-        Err(reason) => format!(in alloc; "!{reason}"),
+        Ok(tree) => push_trees(out, tree.get()),
+        Err(reason) => write!(out, "!{reason}"),
     }
 }

@@ -4,5 +4,5 @@
 pub mod entry_report;
 pub mod report;
 
-pub use entry_report::entry_text;
-pub use report::{end_line, head_line};
+pub use entry_report::push_entry;
+pub use report::{head_line, push_end_line};

@@ -1,8 +1,8 @@
 //! The first and the last line of a report.
-ghost use Rattle.std.specs.Prelude.{◌≡◌, IfOk, string_bytes};
+ghost use Rattle.std.specs.Prelude.{◌≡◌, ◌++◌, OnOk, string_bytes};
 ghost use Rattle.report_text.specs.ReportLines.{end_line, head_line};
 
-use std::alloc::Global;
+use std::fmt::Write;
 use xc_base::Memory;
 
 /// The first line of a report.
@@ -13,11 +13,10 @@ pub fn head_line() -> &'static str
     "xds-report 1\n"
 }
 
-/// The last line of a report with so many entries, by which so many snapshots were published.
+/// Adds the last line of a report with so many entries, by which so many snapshots were published.
 #[tactic(auto, unfolding(crate::specs::ReportLines::end_line))]
-pub fn end_line(alloc: Global, entries: u32, snapshots: u32) -> Result<String, Memory>
-    ensures { IfOk result (λ s. string_bytes s ≡ end_line entries snapshots) }
+pub fn push_end_line(out: &mut String, entries: u32, snapshots: u32) -> Result<(), Memory>
+    ensures { OnOk result (string_bytes out.new ≡ string_bytes out.old ++ end_line entries snapshots) }
 {
-    let text = format!(in alloc; "end {entries} {snapshots}\n")?;
-    Ok(text)
+    write!(out, "end {entries} {snapshots}\n")
 }

@@ -1,6 +1,6 @@
 //! The texts of an entry and of a last line.
 use call_journal::{CallerEvent, CallerReply, Entry, What};
-use report_text::{end_line, entry_text};
+use report_text::{push_end_line, push_entry};
 use std::test::Fail;
 use xc_base::{CallId, List, Node, Text};
 use xds_bootstrap::Bootstrap;
@@ -34,12 +34,14 @@ fn an_entry_has_its_line(rt: HostRuntime) -> Result<(), Fail> {
         authorities: List::new(rt.alloc()),
         node: node(),
     };
-    let text = entry_text(rt.alloc(), &boot, None, None, 2, &commit())?;
+    let mut text = String::new(rt.alloc());
+    push_entry(&mut text, &boot, None, None, 2, &commit())?;
     assert!(rt; text.as_str() == "2 6 c1 commit 0 notheld\n");
     Ok(())
 }
 
 #[test]
 fn a_report_has_a_last_line(rt: HostRuntime) {
-    assert!(rt; end_line(rt.alloc(), 13, 2).is_ok());
+    let mut text = String::new(rt.alloc());
+    assert!(rt; push_end_line(&mut text, 13, 2).is_ok());
 }

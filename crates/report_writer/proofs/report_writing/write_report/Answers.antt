@@ -25,10 +25,10 @@ loop-i-init g c = record {
   later = c.in_ok-write_lines.ensures.cause.later;
 }
 
-pub returns-in_err-text-clause-prefix : goal.returns-in_err-text-clause-prefix
-returns-in_err-text-clause-prefix g c =
+pub returns-in_err-set_entry-clause-prefix : goal.returns-in_err-set_entry-clause-prefix
+returns-in_err-set_entry-clause-prefix g c =
     let rest = so_far c.args.boot.now.authorities (values_of c.args.history.now.tickets) c.args.journal.now.entries c.loop-i.i in
-    on_err_of c.from_residual-in_err-text.result
+    on_err_of c.from_residual-in_err-set_entry.result
     (prefix_so_far (g.K.Sink.held c.args.sink.now) (g.K.Sink.held c.loop-i.sink) _ rest.0 _ rest.1 c.loop-i.invariant.bytes)
 
 pub returns-in_err-write_lines-2-clause-prefix : goal.returns-in_err-write_lines-2-clause-prefix
@@ -41,7 +41,7 @@ returns-in_err-write_lines-2-clause-prefix g c =
     let le : c.loop-i.i ≤ length entries = omega (arith, c.loop-i-test.true, c.len-i-end.ensures) in
     let picked = c.picked_in-cluster.ensures ∙ same_pick (held_in c.loop-i.holds) (held_after published past) e.what c.loop-i.invariant.holds in
     let number : c.loop-i.i + 1 ≡ length past + 1 = omega (arith, first_count entries c.loop-i.i le) in
-    let text = c.as_str.ensures.value ∙ lines_of_entry authorities published e past _ _ (c.loop-i.i + 1) _ c.in_ok-text.ensures c.named_in-snapshot.ensures picked number in
+    let text = c.as_str.ensures.value ∙ lines_of_entry authorities published e past _ _ (c.loop-i.i + 1) _ c.in_ok-set_entry.ensures c.named_in-snapshot.ensures picked number in
     let rest = so_far_and_next authorities published entries c.loop-i.i e c.at-entry.ensures in
     on_err_of c.from_residual-in_err-write_lines-2.result
     (prefix_of_next (g.K.Sink.held c.args.sink.now) (g.K.Sink.held c.loop-i.sink) (g.K.Sink.held c.write_lines-in-loop-i.new.sink) _ _ rest.0 _ rest.1 c.loop-i.invariant.bytes
@@ -57,7 +57,7 @@ returns-in_err-follow-clause-prefix g c =
     let le : c.loop-i.i ≤ length entries = omega (arith, c.loop-i-test.true, c.len-i-end.ensures) in
     let picked = c.picked_in-cluster.ensures ∙ same_pick (held_in c.loop-i.holds) (held_after published past) e.what c.loop-i.invariant.holds in
     let number : c.loop-i.i + 1 ≡ length past + 1 = omega (arith, first_count entries c.loop-i.i le) in
-    let text = c.as_str.ensures.value ∙ lines_of_entry authorities published e past _ _ (c.loop-i.i + 1) _ c.in_ok-text.ensures c.named_in-snapshot.ensures picked number in
+    let text = c.as_str.ensures.value ∙ lines_of_entry authorities published e past _ _ (c.loop-i.i + 1) _ c.in_ok-set_entry.ensures c.named_in-snapshot.ensures picked number in
     let rest = so_far_and_next authorities published entries c.loop-i.i e c.at-entry.ensures in
     on_err_of c.from_residual-in_err-follow.result
     (prefix_so_far (g.K.Sink.held c.args.sink.now) (g.K.Sink.held c.write_lines-in-loop-i.new.sink) _ rest.0 _ rest.1
@@ -73,7 +73,7 @@ loop-i-preserved g c =
     let le : c.loop-i.i ≤ length entries = omega (arith, c.loop-i-test.true, c.len-i-end.ensures) in
     let picked = c.picked_in-cluster.ensures ∙ same_pick (held_in c.loop-i.holds) (held_after published past) e.what c.loop-i.invariant.holds in
     let number : c.loop-i.i + 1 ≡ length past + 1 = omega (arith, first_count entries c.loop-i.i le) in
-    let text = c.as_str.ensures.value ∙ lines_of_entry authorities published e past _ _ (c.loop-i.i + 1) _ c.in_ok-text.ensures c.named_in-snapshot.ensures picked number in
+    let text = c.as_str.ensures.value ∙ lines_of_entry authorities published e past _ _ (c.loop-i.i + 1) _ c.in_ok-set_entry.ensures c.named_in-snapshot.ensures picked number in
     let more = ap (entries_report authorities published) (first_more entries c.loop-i.i e c.at-entry.ensures) ∙ one_more authorities published e past in
     record {
       bytes = rw more (Appends-trans (g.K.Sink.held c.args.sink.now) (g.K.Sink.held c.loop-i.sink) (g.K.Sink.held c.write_lines-in-loop-i.new.sink) _ _ c.loop-i.invariant.bytes (rw text at c.in_ok-write_lines-2.ensures.ok));
@@ -81,10 +81,10 @@ loop-i-preserved g c =
       later = omega (arith, c.loop-i.invariant.later, c.in_ok-write_lines-2.ensures.cause.later);
     }
 
-pub returns-in_err-last-clause-prefix : goal.returns-in_err-last-clause-prefix
-returns-in_err-last-clause-prefix g c =
+pub returns-in_err-set_end_line-clause-prefix : goal.returns-in_err-set_end_line-clause-prefix
+returns-in_err-set_end_line-clause-prefix g c =
     let rest = so_far c.args.boot.now.authorities (values_of c.args.history.now.tickets) c.args.journal.now.entries c.loop-i.i in
-    on_err_of c.from_residual-in_err-last.result
+    on_err_of c.from_residual-in_err-set_end_line.result
     (prefix_so_far (g.K.Sink.held c.args.sink.now) (g.K.Sink.held c.loop-i.sink) _ rest.0 _ rest.1 c.loop-i.invariant.bytes)
 
 pub returns-in_err-write_lines-3-clause-prefix : goal.returns-in_err-write_lines-3-clause-prefix
@@ -93,7 +93,7 @@ returns-in_err-write_lines-3-clause-prefix g c =
     let published = values_of c.args.history.now.tickets in
     let entries = c.args.journal.now.entries in
     let end : c.loop-i.i ≡ length entries = omega (arith, c.loop-i.auto.i-end, c.loop-i-test.false, c.len-i-end.ensures) in
-    let text = c.as_str-2.ensures.value ∙ last_of (length entries) (length published) _ _ _ c.in_ok-last.ensures c.len.ensures (c.len-2.ensures ∙ sym (length-map c.args.history.now.tickets _)) in
+    let text = c.as_str-2.ensures.value ∙ last_of (length entries) (length published) _ _ _ c.in_ok-set_end_line.ensures c.len.ensures (c.len-2.ensures ∙ sym (length-map c.args.history.now.tickets _)) in
     on_err_of c.from_residual-in_err-write_lines-3.result
     (prefix_of_next (g.K.Sink.held c.args.sink.now) (g.K.Sink.held c.loop-i.sink) (g.K.Sink.held c.write_lines-2.new.sink) _ (end_line (length entries) (length published)) [] _
     (ends_at authorities published entries c.loop-i.i end ∙ sym (append-nil _)) c.loop-i.invariant.bytes
@@ -105,6 +105,6 @@ returns-clause-ok g c =
     let published = values_of c.args.history.now.tickets in
     let entries = c.args.journal.now.entries in
     let end : c.loop-i.i ≡ length entries = omega (arith, c.loop-i.auto.i-end, c.loop-i-test.false, c.len-i-end.ensures) in
-    let text = c.as_str-2.ensures.value ∙ last_of (length entries) (length published) _ _ _ c.in_ok-last.ensures c.len.ensures (c.len-2.ensures ∙ sym (length-map c.args.history.now.tickets _)) in
+    let text = c.as_str-2.ensures.value ∙ last_of (length entries) (length published) _ _ _ c.in_ok-set_end_line.ensures c.len.ensures (c.len-2.ensures ∙ sym (length-map c.args.history.now.tickets _)) in
     rw (ends_at authorities published entries c.loop-i.i end)
     (Appends-trans (g.K.Sink.held c.args.sink.now) (g.K.Sink.held c.loop-i.sink) (g.K.Sink.held c.write_lines-2.new.sink) _ _ c.loop-i.invariant.bytes (rw text at c.in_ok-write_lines-3.ensures.ok))

@@ -1,0 +1,9 @@
+use Rattle.std.proofs.Common.{ap, ◌∙◌, ◌++◌, string_bytes}
+use Rattle.report_parts.specs.ReportWords.{escaped}
+use Rattle.report_parts.proofs.ReportEscapes.{escaped_by_set}
+use Rattle.report_parts.proofs.report_words.push_escaped.Goals as goal
+
+pub returns : goal.returns
+returns c =
+    c.in_ok-append_to.ensures.ok
+    ∙ ap (λ text. string_bytes c.args.out.now ++ text) (c.utf8_percent_encode.ensures.text ∙ escaped_by_set c.as_str.result.now ∙ ap escaped c.as_str.ensures)

@@ -1,6 +1,0 @@
-use Rattle.std.proofs.Common.{◌≡◌, flat_map, string_bytes, take}
-use Rattle.report_parts.specs.RequestText.{pattern_line}
-use Rattle.report_text.proofs.entry_report.pattern_lines.Given as goal
-
-abbrev pub invariant-loop-pattern : goal.invariant-loop-pattern
-invariant-loop-pattern l = string_bytes l.out ≡ flat_map pattern_line (take l.pattern-index l.patterns)
