@@ -6,9 +6,11 @@ pub mod calls;
 pub mod calls_laws;
 pub mod host_clusters;
 pub mod latest_snapshot;
+pub mod own_routes;
 pub mod pinning;
 pub mod ref_steps;
 
 pub use calls::Calls;
 pub use latest_snapshot::Latest;
+pub use own_routes::{TicketRoute, own_route};
 pub use pinning::Pinning;

@@ -21,10 +21,10 @@ use crate::jobs::Job;
 use crate::lane_entries::add_entry;
 use crate::lanes::Lane;
 use crate::pinned_calls::Pinned;
-use book_calls::{Calls, Pinning};
+use book_calls::{Calls, Pinning, TicketRoute, own_route};
 use call_journal::{CallerEvent, CallerReply, What};
 use cluster_tree::Snapshot;
-use route_match::{RouteAnswer, choose_route};
+use route_match::RouteAnswer;
 use snapshot_store::Archive;
 use std::alloc::Global;
 use std::marker::PhantomData;
@@ -213,12 +213,12 @@ impl<J: Job> Book<J> {
         let Some(own) = self.own_pin(token.call().id) else {
             return Ok(answer);
         };
-        let archive = self.archive.get();
-        if archive.same(&own.ticket, &token.ticket) {
-            return Ok(answer);
-        }
-        let front = &archive.read(&own.ticket).config.get().front;
-        choose_route(self.alloc, front, token.call(), steps)
+        let known = TicketRoute {
+            ticket: &token.ticket,
+            call: token.call(),
+            answer,
+        };
+        own_route(self.alloc, self.archive.get(), &own.ticket, known, steps)
     }
 
     /// Picks an endpoint for a call, by the draws of a word. It takes no memory while some room is spare.
