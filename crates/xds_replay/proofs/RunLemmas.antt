@@ -13,9 +13,10 @@ use Rattle.session_lines.specs.declared.cause.SessionFault.TheVariants as fault
 use Rattle.session_lines.specs.declared.session.Session.{Session}
 use Rattle.generated_law.specs.GeneratedSession.{generated_session}
 use Rattle.text_law.specs.TextLaw.{text_of}
-use Rattle.xds_replay.specs.declared.statuses.Status.{Status}
-use Rattle.xds_replay.specs.declared.statuses.Status.TheVariants as status
-use Rattle.xds_replay.specs.Outcomes.{IsPlayed, Reports, Totals, status_of, totals_of}
+use Rattle.program_status.specs.declared.statuses.Status.{Status}
+use Rattle.program_status.specs.declared.statuses.Status.TheVariants as status
+use Rattle.program_status.specs.Statuses.{status_of}
+use Rattle.xds_replay.specs.Outcomes.{IsPlayed, Reports, Totals, totals_of}
 
 -- ---- no more bytes are wanted than tell that there are too many
 

@@ -1,14 +1,10 @@
 -- What a run did (this project's own).
-use Rattle.std.specs.Prelude.{◌≡◌, ◌⊎◌, ℕ, List, [], Option, IfSome, Result, Ok, Err}
+use Rattle.std.specs.Prelude.{◌≡◌, ◌⊎◌, ℕ, List, [], Option, IfSome, Ok}
 use Rattle.std.specs.Io.KnownBytes.{Appends, Keeps}
 use Rattle.xc_base.specs.Outside.{AppendsPrefix}
-use Rattle.line_output.specs.declared.out_fault.OutFault.{OutFault}
-use Rattle.line_output.specs.declared.out_fault.OutFault.TheVariants as out
 use Rattle.call_journal.specs.declared.entry.Entry.{Entry}
 use Rattle.config_assembly.specs.Orders.{Name}
 use Rattle.session_lines.specs.Session.{session_of}
-use Rattle.session_lines.specs.declared.cause.SessionFault.{SessionFault}
-use Rattle.session_lines.specs.declared.cause.SessionFault.TheVariants as fault
 use Rattle.session_lines.specs.declared.session.Session.{Session}
 use Rattle.session_generator.specs.Generated.{generated}
 use Rattle.generated_law.specs.GeneratedSession.{generated_session}
@@ -17,9 +13,9 @@ use Rattle.legal_history.specs.Legal.{Legal}
 use Rattle.text_law.specs.TextLaw.{text_of}
 use Rattle.report_law.specs.ReportLaw.{totals}
 use Rattle.session_player.specs.Stages.{Refuses}
-use Rattle.xds_replay.specs.declared.commands.Command.{Command}
-use Rattle.xds_replay.specs.declared.statuses.Status.{Status}
-use Rattle.xds_replay.specs.declared.statuses.Status.TheVariants as status
+use Rattle.program_status.specs.declared.commands.Command.{Command}
+use Rattle.program_status.specs.declared.statuses.Status.{Status}
+use Rattle.program_status.specs.declared.statuses.Status.TheVariants as status
 
 -- ---- what is written
 
@@ -77,14 +73,3 @@ IsWritten (status.Session line cause) = ⊥
 IsWritten status.ReadFault = ⊥
 IsWritten status.WriteFault = Unit {0}
 IsWritten status.Memory = Unit {0}
-
--- the status of a fault of the reader
-abbrev pub status_of : SessionFault → Status
-status_of (fault.Script line cause) = status.Session line cause
-status_of fault.Memory = status.Memory
-
--- the status of what was written
-abbrev pub written : Result Unit OutFault → Status
-written (Ok done) = status.Done
-written (Err out.WriteFault) = status.WriteFault
-written (Err out.Memory) = status.Memory

@@ -2,16 +2,14 @@
 //! and writes its totals.
 #![tactic(auto)]
 
-pub mod commands;
 pub mod program;
 pub mod session_input;
 pub mod standard_streams;
-pub mod statuses;
 
 use header_match::RegexPatterns;
 use program::run;
+use program_status::Status;
 use standard_streams::{StandardInput, StandardOutput};
-use statuses::Status;
 use std::alloc::Global;
 use std::io::{Read, Write};
 use std::process::ExitCode;

@@ -14,14 +14,13 @@ ghost use Rattle.xds_history.specs.Right.{Right};
 ghost use Rattle.xds_history.specs.Setting.{setting_of};
 ghost use Rattle.book_progress.specs.ProgressKept.{most_entries};
 ghost use Rattle.text_law.specs.TextLaw.{text_of};
-ghost use Rattle.xds_replay.specs.Commands.{command_of};
-ghost use Rattle.xds_replay.specs.declared.commands.Command.{Command as Asked};
+ghost use Rattle.program_status.specs.Commands.{command_of};
+ghost use Rattle.program_status.specs.declared.commands.Command.{Command as Asked};
 ghost use Rattle.xds_replay.specs.Outcomes.{IsBegun, IsDone, IsWritten, WritesNothing, totals_of};
 
-use crate::commands::{Command, command_of};
 use crate::session_input::{generated_input, session_in};
-use crate::statuses::{Status, status_of, written};
 use header_match::Patterns;
+use program_status::{Command, Status, command_of, read_status, status_of, written};
 use report_law::{one_report, one_totals};
 use report_writer::write_report;
 use session_generator::write_session;
@@ -30,7 +29,7 @@ use session_player::{Played, play};
 use std::alloc::Global;
 use std::sync::Wait;
 use totals_writer::write_totals;
-use xc_base::{ReadFault, Sink, Source, read_all};
+use xc_base::{Sink, Source, read_all};
 
 /// A session has no more bytes; one more is read, so that it is seen that there are more.
 const MOST_READ: u32 = 67_108_865;
@@ -96,8 +95,7 @@ fn replay<S: Source, K: Sink, P: Patterns, R: Wait + Sync>(
 {
     let bytes = match read_all(alloc, source, MOST_READ) {
         Ok(bytes) => bytes,
-        Err(ReadFault::Failed) => return Status::ReadFault,
-        Err(ReadFault::Memory) => return Status::Memory,
+        Err(fault) => return read_status(fault),
     };
     let session = match session_in(alloc, &bytes) {
         Ok(session) => session,

@@ -1,9 +1,10 @@
 //! How a run ended.
 ghost use Rattle.std.specs.Prelude.{◌≡◌};
-ghost use Rattle.xds_replay.specs.Outcomes.{status_of, written};
+ghost use Rattle.program_status.specs.Statuses.{read_status, status_of, written};
 
 use line_output::OutFault;
 use session_lines::{Cause, SessionFault};
+use xc_base::ReadFault;
 
 /// How a run ended.
 #[derive(Clone, Copy, Debug, PartialEq, Eq)]
@@ -36,7 +37,17 @@ impl Status {
     }
 }
 
-/// The status of a fault of the reader.
+/// The status of a source that wasn't read to its end.
+pub fn read_status(fault: ReadFault) -> Status
+    ensures { result ≡ read_status fault }
+{
+    match fault {
+        ReadFault::Failed => Status::ReadFault,
+        ReadFault::Memory => Status::Memory,
+    }
+}
+
+/// The status of bytes that are no session, or that weren't read as one for want of memory.
 pub fn status_of(fault: SessionFault) -> Status
     ensures { result ≡ status_of fault }
 {

@@ -1,7 +1,7 @@
 //! The commands of the program.
 ghost use Rattle.std.specs.Prelude.{◌≡◌, ◌≤◌, IfSome};
 ghost use Rattle.session_lines.specs.WordValues.{number_within};
-ghost use Rattle.xds_replay.specs.Commands.{HasRounds, command_of, counted};
+ghost use Rattle.program_status.specs.Commands.{HasRounds, command_of, counted};
 
 use xc_base::read_number;
 

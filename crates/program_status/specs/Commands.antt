@@ -3,7 +3,7 @@ use Rattle.std.specs.Prelude.{ℕ, ◌≤◌, List, [], ◌∷◌, String, strin
 use Rattle.std.specs.Str.{bytes_eq}
 use Rattle.std.specs.declared.alloc.Global.{Global}
 use Rattle.session_lines.specs.WordValues.{number_within}
-use Rattle.xds_replay.specs.declared.commands.Command.{Command}
+use Rattle.program_status.specs.declared.commands.Command.{Command}
 
 -- `gen` or `load`, and a number of rounds
 abbrev pub counted : List ℕ → List ℕ → Option Command
