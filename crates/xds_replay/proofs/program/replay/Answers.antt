@@ -3,17 +3,17 @@ use Rattle.std.specs.Io.KnownBytes.{Appends}
 use Rattle.xds_replay.proofs.RunLemmas.{begun_of, complete_of, never_refused, nothing_begun, refusal_of, refused_of, reports_of}
 use Rattle.xds_replay.proofs.program.replay.Goals as goal
 
-pub returns-in-Err-clause-session : goal.returns-in-Err-clause-session
-returns-in-Err-clause-session g c = λ line cause same.
-    refused_of (g.S.Source.left c.args.source.now) c.deref.result.now c.in-Err.fault (rw c.deref.ensures.value c.in-Ok.ensures.bytes) c.in-Err.ensures.gives line cause (sym c.status_of.ensures ∙ same)
+pub returns-in-Err-session_in-clause-session : goal.returns-in-Err-session_in-clause-session
+returns-in-Err-session_in-clause-session g c = λ line cause same.
+    refused_of (g.S.Source.left c.args.source.now) c.deref.result.now c.in-Err-session_in.fault (rw c.deref.ensures.value c.in-Ok.ensures.bytes) c.in-Err-session_in.ensures.gives line cause (sym c.status_of.ensures ∙ same)
 
-pub returns-in-Err-clause-refused : goal.returns-in-Err-clause-refused
-returns-in-Err-clause-refused g c = λ _.
-    rw c.status_of.ensures (refusal_of (g.S.Source.left c.args.source.now) c.deref.result.now c.in-Err.fault (rw c.deref.ensures.value c.in-Ok.ensures.bytes) c.in-Err.ensures.gives)
+pub returns-in-Err-session_in-clause-refused : goal.returns-in-Err-session_in-clause-refused
+returns-in-Err-session_in-clause-refused g c = λ _.
+    rw c.status_of.ensures (refusal_of (g.S.Source.left c.args.source.now) c.deref.result.now c.in-Err-session_in.fault (rw c.deref.ensures.value c.in-Ok.ensures.bytes) c.in-Err-session_in.ensures.gives)
 
-pub returns-in-Err-clause-complete : goal.returns-in-Err-clause-complete
-returns-in-Err-clause-complete g c = λ _ _.
-    rw c.status_of.ensures (complete_of (g.S.Source.left c.args.source.now) c.deref.result.now c.in-Err.fault (rw c.deref.ensures.value c.in-Ok.ensures.bytes) c.in-Err.ensures.gives)
+pub returns-in-Err-session_in-clause-complete : goal.returns-in-Err-session_in-clause-complete
+returns-in-Err-session_in-clause-complete g c = λ _ _.
+    rw c.status_of.ensures (complete_of (g.S.Source.left c.args.source.now) c.deref.result.now c.in-Err-session_in.fault (rw c.deref.ensures.value c.in-Ok.ensures.bytes) c.in-Err-session_in.ensures.gives)
 
 pub returns-in-Ok-play-clause-done : goal.returns-in-Ok-play-clause-done
 returns-in-Ok-play-clause-done g c = λ is.
