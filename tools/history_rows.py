@@ -2,7 +2,8 @@
 is made again, with the texts that were refused as patterns, each published snapshot is given whole, what stands at each
 driver's entry has the number that it has to have, and the entries are those that the session lists, each after its gate.
 
-    python3 tools/history_rows.py REFERENCE FOLDER MODULE SESSION..     a file FOLDER/NAME.antt for each session file
+    python3 tools/history_rows.py REFERENCE FOLDER MODULE SESSION..     a file FOLDER/NAME.antt for each session file, or
+                                                                        for the random session of a number
     python3 tools/history_rows.py REFERENCE FOLDER MODULE @LIST         the same for each line `SESSION | WRONG` of a file,
                                                                         or `NAME = SESSION | WRONG`
     python3 tools/history_rows.py REFERENCE FOLDER MODULE --fuzzed FIRST COUNT MOST
@@ -621,6 +622,14 @@ def name_of(session):
     return os.path.basename(session.partition(":")[0]).removesuffix(".session")
 
 
+def session_of(reference, path):
+    """The session of a file, or the random one of a number, and what it is called."""
+    if path.isdigit():
+        return reference.read_session(reference.fuzz(int(path))), f"random session {path}"
+    with open(path, "rb") as file:
+        return reference.read_session(file.read()), path
+
+
 def main():
     tells = sys.argv[1] == "--refused"
     reference_folder, folder, module, *rest = sys.argv[2:] if tells else sys.argv[1:]
@@ -639,9 +648,8 @@ def main():
     else:
         for given, name, wrong in sessions_of(rest):
             path, _, hold = given.partition(":")
-            title = f"{title_of(name)}: written by tools/history_rows.py from {path}"
-            with open(path, "rb") as file:
-                session = reference.read_session(file.read())
+            session, source = session_of(reference, path)
+            title = f"{title_of(name)}: written by tools/history_rows.py from {source}"
             holds = {}
             if hold:
                 start, line = map(int, hold.split(">"))

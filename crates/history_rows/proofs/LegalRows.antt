@@ -92,7 +92,7 @@ a_line_of_the_driver_is_left_out : Legal (session (sweep_line ∷ [])) (last_swe
 unfolding driver_list
 a_line_of_the_driver_is_left_out legal = let many : 1 ≡ 2 = ap length legal.listed.driver in absurd (omega (arith, many))
 
--- ---- a pin that got a snapshot, and no hold: seen where `started` is left out, or asked for no caller
+-- ---- a pin that is told a snapshot, and no hold: seen where `started` is left out, or asked for no caller
 
 abbrev pin : Entry
 pin = on_line 1 6 (called (CallerEvent.Pin call) (CallerReply.Pinned 1))

@@ -4,3 +4,4 @@ pub mod RefusedTextRows
 pub mod ListedRows
 pub mod LegalRows
 pub mod Sessions
+pub mod RefusesRows

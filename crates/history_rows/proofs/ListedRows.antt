@@ -159,7 +159,7 @@ the_first_caller_is_left_out readable listed = begins (lines_by 1 lines) [] (lis
 the_second_caller_is_left_out : (readable : List ℕ → Bool) → AreListed readable 2 lines (sweep ∷ pick 1 6 0 ∷ moment ∷ last_sweep ∷ []) → ⊥
 the_second_caller_is_left_out readable listed = begins (lines_by 2 lines) [] (listed.each_caller 2 (at_most 1 2 refl) (at_most 2 2 refl))
 
--- seen where any caller may play a caller's line: `lines_by` or `entries_by` for any actor
+-- seen where a line may be played by any caller: `entries_by` of all callers
 another_caller_plays_the_line : (readable : List ℕ → Bool) → AreListed readable 2 lines (sweep ∷ pick 1 6 0 ∷ pick 1 7 0 ∷ moment ∷ last_sweep ∷ []) → ⊥
 another_caller_plays_the_line readable listed = begins (lines_by 2 lines) [] (listed.each_caller 2 (at_most 1 2 refl) (at_most 2 2 refl))
 

@@ -14,11 +14,11 @@ a_count_that_stays rose = absurd (omega (arith, rose))
 a_count_that_falls : Rose 3 2 → ⊥
 a_count_that_falls rose = absurd (omega (arith, rose))
 
--- where it rises by two at least: `before + 2`
+-- where it has to rise by two at least: `before + 2`; or by much: `max` for `min`
 a_count_that_rises : Rose 3 4
 a_count_that_rises = omega arith
 
--- where it rises by one alone: an equation for `≤`
+-- where it rises by one alone: `≡` for `≤`
 a_count_that_rises_by_more : Rose 3 9
 a_count_that_rises_by_more = omega arith
 
@@ -26,10 +26,11 @@ a_count_that_rises_by_more = omega arith
 the_greatest_count : Rose (2 ^ 64 - 1) (2 ^ 64 - 1)
 the_greatest_count = omega arith
 
--- where the value before it counts as risen too: `2 ^ 64 - 2`, or `max` for `min`
+-- where the value before it counts as risen too: `2 ^ 64 - 2`
 the_greatest_count_but_one : Rose (2 ^ 64 - 2) (2 ^ 64 - 2) → ⊥
 the_greatest_count_but_one rose = absurd (omega (arith, rose))
 
+-- where a count that comes to the greatest value hasn't risen: `<` for `≤`
 to_the_greatest_count : Rose (2 ^ 64 - 2) (2 ^ 64 - 1)
 to_the_greatest_count = omega arith
 
@@ -45,6 +46,7 @@ failed = Err []
 no_fault : HasCause 3 3 done
 no_fault = record { later = omega arith; failed = tt }
 
+-- where a call that fails has no cause: `failed = ⊥`
 a_fault : HasCause 3 4 failed
 a_fault = record { later = omega arith; failed = omega arith }
 
@@ -75,6 +77,7 @@ the_empty_prefix = ([], text, refl, refl)
 a_beginning : AppendsPrefix (Some old) (Some (1 ∷ 2 ∷ 7 ∷ 8 ∷ [])) text
 a_beginning = (7 ∷ 8 ∷ [], 9 ∷ [], refl, refl)
 
+-- where a text has at least a byte
 of_the_empty_text : AppendsPrefix (Some old) (Some old) []
 of_the_empty_text = ([], [], refl, refl)
 
@@ -82,7 +85,7 @@ of_the_empty_text = ([], [], refl, refl)
 not_told : AppendsPrefix None (Some old) text
 not_told = tt
 
--- what isn't, for each prefix and rest: all are seen where `AppendsPrefix _ _ _ = ⊤`
+-- What isn't, for each prefix and rest. All of these are seen where `AppendsPrefix _ _ _ = ⊤`.
 foreign_piece : (prefix rest : List ℕ) → text ≡ prefix ++ rest → 1 ∷ 2 ∷ 5 ∷ [] ≡ old ++ prefix → ⊥
 foreign_piece [] rest is now = cc now
 foreign_piece (byte ∷ prefix) rest is now = cc (is, now)
@@ -132,3 +135,7 @@ nothing_of_nothing none = none
 -- where all has to be taken
 one_of_two : TakesSome (taken 1) (7 ∷ 8 ∷ [])
 one_of_two some = omega arith
+
+-- where a call that fails has to take some
+none_by_a_failure : TakesSome failed (7 ∷ [])
+none_by_a_failure = tt

@@ -1,6 +1,7 @@
 -- Worked sessions: histories whose replies are made again, and the lines that they play. The modules below this one are written
 -- by tools/history_rows.py, and each says from which session.
 pub mod BadPatternTold
+pub mod TwoRefusedTexts
 pub mod UnknownTypeIgnored
 pub mod NoRouteFits
 pub mod NoHostForEmptySuffix

@@ -71,8 +71,10 @@ before_and_behind = inl (refl, inr (inl (refl, tt)))
 the_whole : IsSubsequence (a ∷ b ∷ a ∷ []) (a ∷ b ∷ a ∷ [])
 the_whole = inl (refl, inl (refl, inl (refl, tt)))
 
+-- where none of some texts is no list of theirs: `IsSubsequence [] (y ∷ ys) = ⊥`
 none_among_some : IsSubsequence [] (a ∷ b ∷ [])
 none_among_some = tt
 
+-- where a list without texts isn't among itself: `IsSubsequence [] [] = ⊥`
 none_among_none : IsSubsequence [] []
 none_among_none = tt
