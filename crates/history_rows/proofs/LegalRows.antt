@@ -1,12 +1,9 @@
 -- What is a legal history of small sessions, and what isn't: a row for each field of `IsHistoryOf`, which is seen where that
 -- field is left out, or where all histories are legal.
-use Rattle.std.proofs.Common.{◌≡◌, ◌≤◌, refl, ap, ℕ, zero, suc, List, [], ◌∷◌, length, map, Bool, true, false, if◌then◌else◌, ◌==◌, Option, Some, None, codes, arith}
+use Rattle.std.proofs.Common.{◌≡◌, ◌≤◌, refl, ap, ℕ, zero, suc, List, [], ◌∷◌, length, Bool, true, false, if◌then◌else◌, ◌==◌, Option, Some, None, codes, arith}
 use Rattle.std.proofs.lemmas.List.Elements.{All-from_recursion, All-head}
 use Rattle.xc_base.specs.declared.call.Call.{Call}
-use Rattle.xc_base.specs.declared.call.Node.{Node}
-use Rattle.xc_base.specs.declared.names.Authority.{Authority}
 use Rattle.xc_base.specs.declared.names.Home.{Home}
-use Rattle.xc_base.specs.declared.names.Key.{Key}
 use Rattle.xc_base.specs.declared.names.Kind.{Kind}
 use Rattle.xds_bootstrap.specs.declared.bootstrap.Bootstrap.{Bootstrap}
 use Rattle.xds_name.specs.declared.target.Target.{Target}
@@ -20,8 +17,8 @@ use Rattle.session_lines.specs.declared.session.DriverLine.{DriverLine}
 use Rattle.session_lines.specs.declared.session.Work.{Work}
 use Rattle.session_lines.specs.declared.session.Line.{Line}
 use Rattle.session_lines.specs.declared.session.Session.{Session}
-use Rattle.session_script.specs.Plan.{AreListed, ArePlayed, all, driver_list, entries_by, lines_by}
-use Rattle.legal_history.specs.Legal.{AreStarted, Legal, is_read}
+use Rattle.session_script.specs.Plan.{ArePlayed, all, driver_list, entries_by, lines_by}
+use Rattle.legal_history.specs.Legal.{AreStarted, Legal}
 use Rattle.legal_history.proofs.Rows.{a_node, at_most, called, driven, on_line}
 
 -- ---- sessions of one caller, of which the channel's target is the listener `web`

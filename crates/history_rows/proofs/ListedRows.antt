@@ -1,13 +1,11 @@
 -- What entries aren't those of some lines: each differs in one thing from entries that are, and what catches it is said.
-use Rattle.std.proofs.Common.{◌≡◌, ◌≤◌, refl, ap, sym, subst, All, ℕ, zero, suc, inl, inr, List, [], ◌∷◌, ◌++◌, length, map, Bool, true, false, Option, Some, None, arith}
+use Rattle.std.proofs.Common.{◌≡◌, ◌≤◌, refl, ap, sym, subst, All, ℕ, zero, suc, inl, inr, List, [], ◌∷◌, ◌++◌, length, map, Bool, Option, Some, None, arith}
 use Rattle.std.proofs.lemmas.List.Elements.{All-from_recursion, All-head}
 use Rattle.xc_base.specs.declared.names.CallId.{CallId}
-use Rattle.xc_base.specs.declared.names.Time.{Time}
 use Rattle.ads_stream.specs.declared.verdict.Verdict.{Verdict}
 use Rattle.call_journal.specs.declared.event.DriverEvent.{DriverEvent}
 use Rattle.call_journal.specs.declared.event.CallerEvent.{CallerEvent}
 use Rattle.call_journal.specs.declared.reply.CallerReply.{CallerReply}
-use Rattle.call_journal.specs.declared.entry.What.{What}
 use Rattle.call_journal.specs.declared.entry.Entry.{Entry}
 use Rattle.session_lines.specs.declared.session.Act.{Act}
 use Rattle.session_lines.specs.declared.session.DriverLine.{DriverLine}

@@ -1,6 +1,6 @@
 -- What is said of a source and of a sink: faults that are counted, and texts of which a beginning is held. Each row has the
 -- wrong word of the definition that it catches.
-use Rattle.std.proofs.Common.{◌≡◌, refl, ℕ, ◌-◌, ◌^◌, List, [], ◌∷◌, ◌++◌, Option, Some, None, Result, Ok, Err, arith}
+use Rattle.std.proofs.Common.{◌≡◌, refl, ℕ, ◌-◌, ◌^◌, List, [], ◌∷◌, ◌++◌, Some, None, Result, Ok, Err, arith}
 use Rattle.xc_base.specs.Causes.{HasCause, Rose}
 use Rattle.xc_base.specs.Outside.{AppendsPrefix, TakesSome}
 

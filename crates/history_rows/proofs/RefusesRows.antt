@@ -2,9 +2,7 @@
 -- meanwhile. Each row has the wrong word of the definition that it catches.
 use Rattle.std.proofs.Common.{◌≡◌, refl, List, [], ◌∷◌, ◌++◌, inl, inr, codes}
 use Rattle.check_steps.specs.Asking.{IsSubsequence}
-use Rattle.call_journal.specs.declared.entry.Entry.{Entry}
 use Rattle.config_assembly.specs.Orders.{Name}
-use Rattle.xds_history.specs.Responses.{refused_texts}
 use Rattle.session_player.specs.Stages.{Refuses}
 use Rattle.history_rows.proofs.Sessions.BadPatternTold.{history}
 
