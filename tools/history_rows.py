@@ -2,7 +2,8 @@
 is made again, with the texts that were refused as patterns, each published snapshot is given whole, what stands at each
 driver's entry has the number that it has to have, and the entries are those that the session lists, each after its gate.
 
-    python3 tools/history_rows.py REFERENCE FOLDER MODULE SESSION..     a file FOLDER/NAME.antt for each session file
+    python3 tools/history_rows.py REFERENCE FOLDER MODULE SESSION..     a file FOLDER/NAME.antt for each session file, or
+                                                                        for the random session of a number
     python3 tools/history_rows.py REFERENCE FOLDER MODULE @LIST         the same for each line `SESSION | WRONG` of a file,
                                                                         or `NAME = SESSION | WRONG`
     python3 tools/history_rows.py REFERENCE FOLDER MODULE --fuzzed FIRST COUNT MOST
@@ -11,9 +12,11 @@ REFERENCE is the folder of the reference program, which plays the sessions. MODU
 files import. In place of SESSION may stand SESSION:START>LINE: the hold of the call that starts at line START stands after
 line LINE, so that its pin is open meanwhile. With --fuzzed it plays random sessions, by their seeds, of at most MOST
 entries. Sessions with patterns that are accepted are left out. Where a frame comes in parts, the lines aren't written.
-WRONG says what the row is to catch. The rows of the repository are those of
+WRONG says what the row is to catch. With --refused before all others the files also say which texts the history tells as
+refused, in their order, and others may use the history. The rows of the repository are those of
 
     python3 tools/history_rows.py REFERENCE crates/legal_history/proofs/Rows Rattle.legal_history.proofs.Rows @tools/history_rows.txt
+    python3 tools/history_rows.py --refused REFERENCE crates/history_rows/proofs/Sessions Rattle.legal_history.proofs.Rows @tools/further_rows.txt
 """
 
 import os
@@ -83,12 +86,13 @@ def after(count, base):
 
 
 class Writer:
-    """A history, written down."""
+    """A history, written down; `tells` asks for its refused texts too."""
 
-    def __init__(self, reference, session, history, title):
-        self.reference, self.session, self.history, self.title = reference, session, history, title
+    def __init__(self, reference, session, history, title, tells):
+        self.reference, self.session, self.history, self.title, self.tells = reference, session, history, title, tells
         self.texts, self.values, self.definitions = {}, {}, []
         self.payloads, self.responses, self.checked = {}, [], []
+        self.streams = {}  # of each authority whose stream is up, what came of a frame that hasn't ended
 
     def text(self, t):
         if t == "":
@@ -373,20 +377,50 @@ class Writer:
                 fact = f"(refl, are_apart snapshot{now} snapshot{before} refl)" if number is not None and before > 0 else "refl"
                 yield record(stands=stands, last=last, number=optional(number)), fact
 
+    def refusals(self):
+        """The texts that entries tell as refused, the oldest entry's first."""
+        return [text for e in self.history.H if isinstance(e.reply, dict) for text in e.reply["refused"]]
+
     def refused(self):
         """The texts that were refused as patterns in the history, each once."""
-        texts = [text for e in self.history.H if isinstance(e.reply, dict) for text in e.reply["refused"]]
-        return self.names(dict.fromkeys(texts))
+        return self.names(dict.fromkeys(self.refusals()))
+
+    def unfolding(self):
+        """What the replies unfold: digits too, where a resource has no name and is told by its place."""
+        return UNFOLDING + " digits" * any("name = None" in checked for checked in self.checked)
+
+    def told(self):
+        """What the history tells as refused, where that is asked for."""
+        if not self.tells:
+            return []
+        return ["-- what entries tell as refused, the oldest entry's first: seen where none is told, or the newest first\n"
+                f"pub refused : refused_texts history ≡ {self.names(self.refusals())}\nrefused = refl\n"]
 
     # ---- the session's lines
 
-    def frames(self, data, rest):
-        """The bytes of a data line, each payload by its place; `rest` tells whether a frame is still open before it."""
-        payloads, after = self.cut(data)
-        if rest or (after and after[0] == 0 and not (len(after) >= 5 and int.from_bytes(after[1:5], "big") > 4194304)):
+    def frames(self, authority, data):
+        """The bytes of a data line, each payload by its place. What doesn't end a frame stays as it is."""
+        is_up, before = authority in self.streams, self.streams.pop(authority, b"")
+        payloads, rest = self.cut(before + data)
+        if before and payloads:
             raise LeftOut("a frame in parts")
+        if is_up and self.stays_up(payloads, rest):
+            self.streams[authority] = rest
         written = [byte for payload in payloads for byte in (0, 0, 0, 0, 1, self.payload(payload))]
-        return listed(map(str, written + list(after)))
+        return listed(map(str, written + list(rest[len(before):])))
+
+    def stays_up(self, payloads, rest):
+        """Whether the stream stays up on which these came, and then the beginning of a frame."""
+        too_long = len(rest) >= 5 and int.from_bytes(rest[1:5], "big") > 4194304
+        return not too_long and rest[:1] in (b"", b"\0") and UNREAD not in map(self.payload, payloads)
+
+    def opened(self, authority):
+        self.streams[authority] = b""
+        return f"(DriverLine.Opened {number(authority)})"
+
+    def lost(self, authority):
+        self.streams.pop(authority, None)
+        return f"(DriverLine.Lost {number(authority)})"
 
     @staticmethod
     def cut(data):
@@ -400,9 +434,9 @@ class Writer:
     def driver_line(self, event):
         kind, *rest = event
         return {
-            "open": lambda: f"(DriverLine.Opened {number(rest[0])})",
-            "data": lambda: f"(DriverLine.Bytes {number(rest[0])} {self.frames(rest[1], False)})",
-            "lost": lambda: f"(DriverLine.Lost {number(rest[0])})",
+            "open": lambda: self.opened(rest[0]),
+            "data": lambda: f"(DriverLine.Bytes {number(rest[0])} {self.frames(rest[0], rest[1])})",
+            "lost": lambda: self.lost(rest[0]),
             "time": lambda: f"(DriverLine.Moment {number(rest[0])})",
             "endpoint": lambda: f"(DriverLine.Endpoint {self.text(rest[0])} {STATES[rest[1]]})",
             "sweep": lambda: "DriverLine.Sweep",
@@ -483,7 +517,7 @@ class Writer:
         newest_first = "".join(f"entry{i} ∷ " for i in range(len(entries), 0, -1)) + "[]"
         published = "".join(f"snapshot{i} ∷ " for i in range(len(snapshots), 0, -1)) + "[]"
         steps = list(reversed(list(self.steps())))
-        refused, lines = self.refused(), self.lines_if_whole()
+        refused, told, lines = self.refused(), self.told(), self.lines_if_whole()
         body = "\n".join([
             *self.definitions,
             f"abbrev key : Kind → Name → Key\nkey = key_from {homes}\n",
@@ -491,8 +525,9 @@ class Writer:
             f"    {listed(self.responses)}\n    {listed(self.checked)}\n",
             *entries,
             *snapshots,
-            f"-- the newest first\nabbrev history : List Entry\nhistory = {newest_first}\n",
-            f"replies : replayed set {refused} history ≡ as_made history\n{UNFOLDING}\nreplies = refl\n",
+            f"-- the newest first\nabbrev{' pub' * self.tells} history : List Entry\nhistory = {newest_first}\n",
+            f"replies : replayed set {refused} history ≡ as_made history\n{self.unfolding()}\nreplies = refl\n",
+            *told,
             f"published : snapshots set history ≡ {published}\n{UNFOLDING}\npublished = refl\n",
             f"-- what stands at each driver's entry, and its number: seen where the first snapshot isn't 1, where one is published that\n-- shows nothing new, or where one that does isn't\nabbrev told : List Step\ntold = {listed(step for step, _ in steps)}\n",
             f"stood : steps set history ≡ told\n{UNFOLDING}\nstood = refl\n",
@@ -507,6 +542,7 @@ LISTING = "unfolding driver_list cut cut_within first_frame fault_at"
 
 IMPORTS = """use Rattle.std.proofs.Common.{◌≡◌, ◌≤◌, inl, inr, refl, ℕ, zero, suc, pos, negsuc, List, [], ◌∷◌, true, false, Option, Some, None, Ok, Err, codes, arith}
 use Rattle.std.proofs.lemmas.List.Elements.{All-from_recursion}
+use Rattle.std.specs.Fmt.{digits}
 use Rattle.xc_base.specs.declared.names.Kind.{Kind}
 use Rattle.xc_base.specs.declared.names.Key.{Key}
 use Rattle.xc_base.specs.declared.names.Home.{Home}
@@ -542,6 +578,7 @@ use Rattle.session_lines.specs.declared.session.Line.{Line}
 use Rattle.session_script.specs.Plan.{driver_list, lines_by, entries_by, ArePlayed, all, next, AreListed}
 use Rattle.config_assembly.specs.Orders.{Name}
 use Rattle.xds_history.specs.Setting.{Setting}
+use Rattle.xds_history.specs.Responses.{refused_texts}
 use Rattle.xds_history.specs.Right.{shown}
 use Rattle.legal_history.specs.Legal.{AreOpen, AreStarted, EndsInSweep, is_read}
 use MODULE.{a_node, response, setting_with, key_from, driven, called, on_line, replayed, as_made, snapshots, Step, steps, AreNumbered, are_apart, at_most}
@@ -557,9 +594,9 @@ def module_of(name):
     return "".join(w.capitalize() for w in name.replace("own.", "").replace("-", "_").split("_"))
 
 
-def put(reference, folder, imports, name, title, session, history):
+def put(reference, folder, imports, name, title, session, history, tells):
     try:
-        text = Writer(reference, session, history, title).write(imports)
+        text = Writer(reference, session, history, title, tells).write(imports)
     except LeftOut:
         return False
     with open(os.path.join(folder, f"{name}.antt"), "w", encoding="utf-8") as out:
@@ -585,8 +622,17 @@ def name_of(session):
     return os.path.basename(session.partition(":")[0]).removesuffix(".session")
 
 
+def session_of(reference, path):
+    """The session of a file, or the random one of a number, and what it is called."""
+    if path.isdigit():
+        return reference.read_session(reference.fuzz(int(path))), f"random session {path}"
+    with open(path, "rb") as file:
+        return reference.read_session(file.read()), path
+
+
 def main():
-    reference_folder, folder, module, *rest = sys.argv[1:]
+    tells = sys.argv[1] == "--refused"
+    reference_folder, folder, module, *rest = sys.argv[2:] if tells else sys.argv[1:]
     reference, imports = Reference(reference_folder), IMPORTS.replace("MODULE", module)
     made = []
     if rest[0] == "--fuzzed":
@@ -597,14 +643,13 @@ def main():
                 history = reference.play(session)
             except reference.SessionFault:
                 continue
-            if 10 <= len(history.H) <= most and put(reference, folder, imports, f"F{seed}", f"Random session {seed}", session, history):
+            if 10 <= len(history.H) <= most and put(reference, folder, imports, f"F{seed}", f"Random session {seed}", session, history, tells):
                 made.append(f"F{seed}")
     else:
         for given, name, wrong in sessions_of(rest):
             path, _, hold = given.partition(":")
-            title = f"{title_of(name)}: written by tools/history_rows.py from {path}"
-            with open(path, "rb") as file:
-                session = reference.read_session(file.read())
+            session, source = session_of(reference, path)
+            title = f"{title_of(name)}: written by tools/history_rows.py from {source}"
             holds = {}
             if hold:
                 start, line = map(int, hold.split(">"))
@@ -612,7 +657,7 @@ def main():
                 title += f", where the hold of line {start} stands after line {line}"
             title += f".\n-- It is to catch: {wrong}" if wrong else ""
             history = reference.history_with(session, holds)
-            if put(reference, folder, imports, module_of(name), title, session, history):
+            if put(reference, folder, imports, module_of(name), title, session, history, tells):
                 made.append(module_of(name))
     print("\n".join(made))
 

@@ -1,0 +1,32 @@
+-- Worked sessions: histories whose replies are made again, and the lines that they play. The modules below this one are written
+-- by tools/history_rows.py, and each says from which session.
+pub mod BadPatternTold
+pub mod TwoRefusedTexts
+pub mod UnknownTypeIgnored
+pub mod NoRouteFits
+pub mod NoHostForEmptySuffix
+pub mod NoHostForEmptyPrefix
+pub mod SwitchToFailingCluster
+pub mod WeightsChooseCluster
+pub mod TwoResponsesInOneLine
+pub mod UnreadableResponseEndsStream
+pub mod CompressedFrameEndsStream
+pub mod TooLongFrameEndsStream
+pub mod LongestFrameBegins
+pub mod UnreadableResourceNacked
+pub mod DeletedThenRefusedCluster
+pub mod ClusterHeaderRouteSkipped
+pub mod FirstFittingRoute
+pub mod WeightsAbove32BitsNacked
+pub mod WeightsOfZeroNacked
+pub mod HostExactDomain
+pub mod HostSuffixWildcard
+pub mod HostSuffixBeforePrefix
+pub mod HostPrefixWildcard
+pub mod HostStarForEmptySuffix
+pub mod HostStarForEmptyPrefix
+pub mod HostExactDomainWithoutStar
+pub mod HostSuffixWildcardWithoutStar
+pub mod HostSuffixBeforePrefixWithoutStar
+pub mod HostPrefixWildcardWithoutStar
+pub mod NoEvents

@@ -1,0 +1,233 @@
+-- First fitting route: written by tools/history_rows.py from examples/first_fitting_route.session.
+-- It is to catch: a later route that fits and is taken, a whole path that is a prefix.
+use Rattle.std.proofs.Common.{◌≡◌, ◌≤◌, inr, refl, ℕ, zero, suc, List, [], ◌∷◌, true, false, Some, None, Ok, codes, arith}
+use Rattle.std.proofs.lemmas.List.Elements.{All-from_recursion}
+use Rattle.xc_base.specs.declared.names.Kind.{Kind}
+use Rattle.xc_base.specs.declared.names.Key.{Key}
+use Rattle.xc_base.specs.declared.names.State.{State}
+use Rattle.xds_config.specs.declared.value.Value.{Value}
+use Rattle.xds_config.specs.declared.listener_values.RoutesFrom.{RoutesFrom}
+use Rattle.xds_config.specs.declared.route_values.RouteValue.{RouteValue}
+use Rattle.xds_config.specs.declared.route_values.PathTest.{PathTest}
+use Rattle.xds_config.specs.declared.route_values.Action.{Action}
+use Rattle.xds_config.specs.declared.cluster_values.Shape.{Shape}
+use Rattle.xds_config.specs.declared.endpoint_values.EndpointValue.{EndpointValue}
+use Rattle.route_match.specs.declared.answer.RouteAnswer.{RouteAnswer}
+use Rattle.aggregate_expand.specs.Leaves.{goes_on, ends, leaves_within}
+use Rattle.weighted_lb.specs.declared.picker.PickBody.{PickBody}
+use Rattle.cluster_tree.specs.declared.snapshot.Snapshot.{Snapshot}
+use Rattle.ads_stream.specs.declared.verdict.Verdict.{Verdict}
+use Rattle.call_journal.specs.declared.event.BytesHow.{BytesHow}
+use Rattle.call_journal.specs.declared.event.DriverEvent.{DriverEvent}
+use Rattle.call_journal.specs.declared.event.CallerEvent.{CallerEvent}
+use Rattle.call_journal.specs.declared.reply.CallerReply.{CallerReply}
+use Rattle.call_journal.specs.declared.entry.Entry.{Entry}
+use Rattle.grpc_framing.specs.Cut.{cut, cut_within, first_frame}
+use Rattle.grpc_framing.specs.Framing.{fault_at}
+use Rattle.session_lines.specs.declared.session.DriverLine.{DriverLine}
+use Rattle.session_lines.specs.declared.session.Act.{Act}
+use Rattle.session_lines.specs.declared.session.Work.{Work}
+use Rattle.session_lines.specs.declared.session.Line.{Line}
+use Rattle.session_script.specs.Plan.{driver_list, lines_by, entries_by, ArePlayed, all, next, AreListed}
+use Rattle.config_assembly.specs.Orders.{Name}
+use Rattle.xds_history.specs.Setting.{Setting}
+use Rattle.xds_history.specs.Responses.{refused_texts}
+use Rattle.xds_history.specs.Right.{shown}
+use Rattle.legal_history.specs.Legal.{AreOpen, AreStarted, EndsInSweep, is_read}
+use Rattle.legal_history.proofs.Rows.{a_node, response, setting_with, key_from, driven, called, on_line, replayed, as_made, snapshots, Step, steps, AreNumbered, at_most}
+
+abbrev text0 : Name
+text0 = codes "shop.example"
+
+abbrev text1 : Name
+text1 = codes "cart"
+
+abbrev text2 : Name
+text2 = codes "7"
+
+abbrev text3 : Name
+text3 = codes "a"
+
+abbrev text4 : Name
+text4 = codes "shop"
+
+abbrev text5 : Name
+text5 = codes "h"
+
+abbrev text6 : Name
+text6 = codes "*"
+
+abbrev text7 : Name
+text7 = codes "/shop.Cart/Add"
+
+abbrev text8 : Name
+text8 = codes "/shop."
+
+abbrev text9 : Name
+text9 = codes "shop-routes"
+
+abbrev routes10 : RouteValue
+routes10 = (record { name = text9; hosts = ((record { name = text5; domains = (text6 ∷ []); routes = ((record { place = 0; path = (PathTest.Whole text7 true); headers = ([]); fraction = None; action = (Action.To ((record { cluster = text1; weight = 1 }) ∷ [])) }) ∷ (record { place = 1; path = (PathTest.Prefix text8 true); headers = ([]); fraction = None; action = (Action.To ((record { cluster = text4; weight = 1 }) ∷ [])) }) ∷ []) }) ∷ []) })
+
+abbrev text11 : Name
+text11 = codes "3"
+
+abbrev text12 : Name
+text12 = codes "b"
+
+abbrev text13 : Name
+text13 = codes "5"
+
+abbrev text14 : Name
+text14 = codes "c"
+
+abbrev text15 : Name
+text15 = codes "z"
+
+abbrev text16 : Name
+text16 = codes "10.0.0.1:80"
+
+abbrev endpoints17 : EndpointValue
+endpoints17 = (record { name = text1; localities = ((record { id = (record { region = []; zone = text15; sub_zone = [] }); priority = 0; weight = 1; addresses = (text16 ∷ []) }) ∷ []); drops = ([]) })
+
+abbrev text18 : Name
+text18 = codes "10.0.0.2:80"
+
+abbrev endpoints19 : EndpointValue
+endpoints19 = (record { name = text4; localities = ((record { id = (record { region = []; zone = text15; sub_zone = [] }); priority = 0; weight = 1; addresses = (text18 ∷ []) }) ∷ []); drops = ([]) })
+
+abbrev text20 : Name
+text20 = codes "/shop.Stock/List"
+
+abbrev key : Kind → Name → Key
+key = key_from ([])
+
+abbrev set : Setting
+set = setting_with key 1 text0 text0
+    (response 0 text2 text3 (0 ∷ []) ∷ response 2 text11 text12 (1 ∷ 2 ∷ []) ∷ response 3 text13 text14 (3 ∷ 4 ∷ []) ∷ [])
+    ((Ok (record { name = text0; value = (Value.Listener (record { name = text0; routes = (RoutesFrom.Inline routes10) })) })) ∷ (Ok (record { name = text1; value = (Value.Cluster (record { name = text1; shape = (Shape.Eds []) })) })) ∷ (Ok (record { name = text4; value = (Value.Cluster (record { name = text4; shape = (Shape.Eds []) })) })) ∷ (Ok (record { name = text1; value = (Value.Endpoint endpoints17) })) ∷ (Ok (record { name = text4; value = (Value.Endpoint endpoints19) })) ∷ [])
+
+abbrev entry1 : Entry
+entry1 = on_line 0 5 (driven (DriverEvent.Opened (record { 0 = 0 })) Verdict.Done (Some (key Kind.Listener text0)) ((record { authority = (record { 0 = 0 }); request = (record { kind = Kind.Listener; version = []; nonce = []; names = (text0 ∷ []); node = (Some a_node); error = None }) }) ∷ []) None ([]))
+
+abbrev entry2 : Entry
+entry2 = on_line 0 6 (driven (DriverEvent.Response (record { 0 = 0 }) (0 ∷ [])) (Verdict.Ack Kind.Listener) (Some (key Kind.Cluster text1)) ((record { authority = (record { 0 = 0 }); request = (record { kind = Kind.Listener; version = text2; nonce = text3; names = (text0 ∷ []); node = None; error = None }) }) ∷ (record { authority = (record { 0 = 0 }); request = (record { kind = Kind.Cluster; version = []; nonce = []; names = (text1 ∷ text4 ∷ []); node = None; error = None }) }) ∷ []) None ([]))
+
+abbrev entry3 : Entry
+entry3 = on_line 0 6 (driven (DriverEvent.Bytes (record { 0 = 0 }) BytesHow.Whole) Verdict.Done (Some (key Kind.Cluster text1)) ([]) None ([]))
+
+abbrev entry4 : Entry
+entry4 = on_line 0 7 (driven (DriverEvent.Response (record { 0 = 0 }) (1 ∷ [])) (Verdict.Ack Kind.Cluster) (Some (key Kind.Endpoint text1)) ((record { authority = (record { 0 = 0 }); request = (record { kind = Kind.Cluster; version = text11; nonce = text12; names = (text1 ∷ text4 ∷ []); node = None; error = None }) }) ∷ (record { authority = (record { 0 = 0 }); request = (record { kind = Kind.Endpoint; version = []; nonce = []; names = (text1 ∷ text4 ∷ []); node = None; error = None }) }) ∷ []) None ([]))
+
+abbrev entry5 : Entry
+entry5 = on_line 0 7 (driven (DriverEvent.Bytes (record { 0 = 0 }) BytesHow.Whole) Verdict.Done (Some (key Kind.Endpoint text1)) ([]) None ([]))
+
+abbrev entry6 : Entry
+entry6 = on_line 0 8 (driven (DriverEvent.Response (record { 0 = 0 }) (2 ∷ [])) (Verdict.Ack Kind.Endpoint) None ((record { authority = (record { 0 = 0 }); request = (record { kind = Kind.Endpoint; version = text13; nonce = text14; names = (text1 ∷ text4 ∷ []); node = None; error = None }) }) ∷ []) (Some 1) ([]))
+
+abbrev entry7 : Entry
+entry7 = on_line 0 8 (driven (DriverEvent.Bytes (record { 0 = 0 }) BytesHow.Whole) Verdict.Done None ([]) None ([]))
+
+abbrev entry8 : Entry
+entry8 = on_line 1 9 (called (CallerEvent.Pin (record { id = (record { 0 = 0 }); path = text7; headers = ([]); word = 0 })) (CallerReply.Pinned 1))
+
+abbrev entry9 : Entry
+entry9 = on_line 1 9 (called (CallerEvent.Hold (record { id = (record { 0 = 0 }); path = text7; headers = ([]); word = 0 })) (CallerReply.Routed 1 (RouteAnswer.To 0 0)))
+
+abbrev entry10 : Entry
+entry10 = on_line 1 10 (called (CallerEvent.Pin (record { id = (record { 0 = 1 }); path = text20; headers = ([]); word = 0 })) (CallerReply.Pinned 1))
+
+abbrev entry11 : Entry
+entry11 = on_line 1 10 (called (CallerEvent.Hold (record { id = (record { 0 = 1 }); path = text20; headers = ([]); word = 0 })) (CallerReply.Routed 1 (RouteAnswer.To 1 0)))
+
+abbrev entry12 : Entry
+entry12 = on_line 1 11 (called (CallerEvent.Commit (record { 0 = 0 })) CallerReply.Released)
+
+abbrev entry13 : Entry
+entry13 = on_line 1 12 (called (CallerEvent.Commit (record { 0 = 1 })) CallerReply.Released)
+
+abbrev entry14 : Entry
+entry14 = on_line 0 0 (driven DriverEvent.Sweep Verdict.Done None ([]) None ([]))
+
+abbrev snapshot1 : Snapshot
+snapshot1 = (record { number = 1; config = (record { front = (Ok (record { listener = text0; routes = routes10; host = 0 })); clusters = ((record { name = text1; state = (Ok (record { aggregate = false; leaves = ((record { name = text1; state = (Ok endpoints17) }) ∷ []) })) }) ∷ (record { name = text4; state = (Ok (record { aggregate = false; leaves = ((record { name = text4; state = (Ok endpoints19) }) ∷ []) })) }) ∷ []) }); trees = ((Ok (record { children = ((record { leaf = text1; priority = 0; view = (record { there = true; state = State.Connecting; pending = true; unused = false }) }) ∷ []); chosen = 0; waiting = None; picker = (record { drops = ([]); body = PickBody.Queue }) })) ∷ (Ok (record { children = ((record { leaf = text4; priority = 0; view = (record { there = true; state = State.Connecting; pending = true; unused = false }) }) ∷ []); chosen = 0; waiting = None; picker = (record { drops = ([]); body = PickBody.Queue }) })) ∷ []) })
+
+-- the newest first
+abbrev pub history : List Entry
+history = entry14 ∷ entry13 ∷ entry12 ∷ entry11 ∷ entry10 ∷ entry9 ∷ entry8 ∷ entry7 ∷ entry6 ∷ entry5 ∷ entry4 ∷ entry3 ∷ entry2 ∷ entry1 ∷ []
+
+replies : replayed set ([]) history ≡ as_made history
+unfolding leaves_within goes_on ends
+replies = refl
+
+-- what entries tell as refused, the oldest entry's first: seen where none is told, or the newest first
+pub refused : refused_texts history ≡ ([])
+refused = refl
+
+published : snapshots set history ≡ snapshot1 ∷ []
+unfolding leaves_within goes_on ends
+published = refl
+
+-- what stands at each driver's entry, and its number: seen where the first snapshot isn't 1, where one is published that
+-- shows nothing new, or where one that does isn't
+abbrev told : List Step
+told = ((record { stands = (Some (shown snapshot1)); last = (Some snapshot1); number = None }) ∷ (record { stands = (Some (shown snapshot1)); last = (Some snapshot1); number = None }) ∷ (record { stands = (Some (shown snapshot1)); last = None; number = (Some 1) }) ∷ (record { stands = None; last = None; number = None }) ∷ (record { stands = None; last = None; number = None }) ∷ (record { stands = None; last = None; number = None }) ∷ (record { stands = None; last = None; number = None }) ∷ (record { stands = None; last = None; number = None }) ∷ [])
+
+stood : steps set history ≡ told
+unfolding leaves_within goes_on ends
+stood = refl
+
+numbered : AreNumbered told
+numbered = (refl, (refl, (refl, (refl, (refl, (refl, (refl, (refl, tt))))))))
+
+abbrev line5 : Line
+line5 = (record { number = 5; gate = None; work = (Work.Driver (DriverLine.Opened (record { 0 = 0 }))) })
+
+abbrev line6 : Line
+line6 = (record { number = 6; gate = None; work = (Work.Driver (DriverLine.Bytes (record { 0 = 0 }) (0 ∷ 0 ∷ 0 ∷ 0 ∷ 1 ∷ 0 ∷ []))) })
+
+abbrev line7 : Line
+line7 = (record { number = 7; gate = None; work = (Work.Driver (DriverLine.Bytes (record { 0 = 0 }) (0 ∷ 0 ∷ 0 ∷ 0 ∷ 1 ∷ 1 ∷ []))) })
+
+abbrev line8 : Line
+line8 = (record { number = 8; gate = None; work = (Work.Driver (DriverLine.Bytes (record { 0 = 0 }) (0 ∷ 0 ∷ 0 ∷ 0 ∷ 1 ∷ 2 ∷ []))) })
+
+abbrev line9 : Line
+line9 = (record { number = 9; gate = None; work = (Work.Caller 1 (Act.Start (record { id = (record { 0 = 0 }); path = text7; headers = ([]); word = 0 }))) })
+
+abbrev line10 : Line
+line10 = (record { number = 10; gate = None; work = (Work.Caller 1 (Act.Start (record { id = (record { 0 = 1 }); path = text20; headers = ([]); word = 0 }))) })
+
+abbrev line11 : Line
+line11 = (record { number = 11; gate = None; work = (Work.Caller 1 (Act.Commit (record { 0 = 0 }))) })
+
+abbrev line12 : Line
+line12 = (record { number = 12; gate = None; work = (Work.Caller 1 (Act.Commit (record { 0 = 1 }))) })
+
+abbrev lines : List Line
+lines = line5 ∷ line6 ∷ line7 ∷ line8 ∷ line9 ∷ line10 ∷ line11 ∷ line12 ∷ []
+
+-- the oldest first
+abbrev entries : List Entry
+entries = entry1 ∷ entry2 ∷ entry3 ∷ entry4 ∷ entry5 ∷ entry6 ∷ entry7 ∷ entry8 ∷ entry9 ∷ entry10 ∷ entry11 ∷ entry12 ∷ entry13 ∷ entry14 ∷ []
+
+-- each line's events once and in order: seen where a line is left out, or comes twice
+each : (caller : ℕ) → 1 ≤ caller → caller ≤ 1 → ArePlayed (lines_by caller lines) (entries_by caller entries)
+each zero low high = absurd (omega (arith, low))
+each (suc zero) low high = (next line9 (line10 ∷ line11 ∷ line12 ∷ []) (entry8 ∷ entry9 ∷ []) (entry10 ∷ entry11 ∷ entry12 ∷ entry13 ∷ []) (All-from_recursion (λ entry. entry.line ≡ 9) (entry8 ∷ entry9 ∷ []) (refl, (refl, tt))) (inr refl) (next line10 (line11 ∷ line12 ∷ []) (entry10 ∷ entry11 ∷ []) (entry12 ∷ entry13 ∷ []) (All-from_recursion (λ entry. entry.line ≡ 10) (entry10 ∷ entry11 ∷ []) (refl, (refl, tt))) (inr refl) (next line11 (line12 ∷ []) (entry12 ∷ []) (entry13 ∷ []) (All-from_recursion (λ entry. entry.line ≡ 11) (entry12 ∷ []) (refl, tt)) refl (next line12 ([]) (entry13 ∷ []) ([]) (All-from_recursion (λ entry. entry.line ≡ 12) (entry13 ∷ []) (refl, tt)) refl all))))
+each (suc (suc n)) low high = absurd (omega (arith, high))
+
+-- seen where the driver lists nothing, no responses, or not the last sweep
+listed : AreListed (is_read set) 1 lines entries
+unfolding driver_list cut cut_within first_frame fault_at
+listed = record { driver = refl; each_caller = each; actors = All-from_recursion (λ entry. entry.actor ≤ 1) entries (at_most 0 1 refl, (at_most 0 1 refl, (at_most 0 1 refl, (at_most 0 1 refl, (at_most 0 1 refl, (at_most 0 1 refl, (at_most 0 1 refl, (at_most 1 1 refl, (at_most 1 1 refl, (at_most 1 1 refl, (at_most 1 1 refl, (at_most 1 1 refl, (at_most 1 1 refl, (at_most 0 1 refl, tt)))))))))))))) }
+
+started1 : AreStarted (entries_by 1 entries)
+started1 = (refl, (tt, (refl, (tt, (tt, (tt, tt))))))
+
+-- seen where a line's end isn't told, so that a gate stays shut
+opened : AreOpen lines history
+opened = (tt, (tt, (tt, (tt, (tt, (tt, (tt, (tt, (tt, (tt, (tt, (tt, (tt, (tt, tt))))))))))))))
+
+swept : EndsInSweep history
+swept = refl

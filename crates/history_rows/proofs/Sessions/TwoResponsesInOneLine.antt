@@ -1,0 +1,143 @@
+-- Two responses in one line: written by tools/history_rows.py from examples/two_responses_in_one_line.session.
+-- It is to catch: of two responses in one line the first one alone, or the last one first.
+use Rattle.std.proofs.Common.{◌≡◌, ◌≤◌, refl, ℕ, zero, suc, List, [], ◌∷◌, true, Some, None, Ok, codes, arith}
+use Rattle.std.proofs.lemmas.List.Elements.{All-from_recursion}
+use Rattle.xc_base.specs.declared.names.Kind.{Kind}
+use Rattle.xc_base.specs.declared.names.Key.{Key}
+use Rattle.xds_config.specs.declared.value.Value.{Value}
+use Rattle.xds_config.specs.declared.listener_values.RoutesFrom.{RoutesFrom}
+use Rattle.xds_config.specs.declared.route_values.RouteValue.{RouteValue}
+use Rattle.xds_config.specs.declared.route_values.PathTest.{PathTest}
+use Rattle.xds_config.specs.declared.route_values.Action.{Action}
+use Rattle.xds_config.specs.declared.cluster_values.Shape.{Shape}
+use Rattle.aggregate_expand.specs.Leaves.{goes_on, ends, leaves_within}
+use Rattle.ads_stream.specs.declared.verdict.Verdict.{Verdict}
+use Rattle.call_journal.specs.declared.event.BytesHow.{BytesHow}
+use Rattle.call_journal.specs.declared.event.DriverEvent.{DriverEvent}
+use Rattle.call_journal.specs.declared.entry.Entry.{Entry}
+use Rattle.grpc_framing.specs.Cut.{cut, cut_within, first_frame}
+use Rattle.grpc_framing.specs.Framing.{fault_at}
+use Rattle.session_lines.specs.declared.session.DriverLine.{DriverLine}
+use Rattle.session_lines.specs.declared.session.Work.{Work}
+use Rattle.session_lines.specs.declared.session.Line.{Line}
+use Rattle.session_script.specs.Plan.{driver_list, lines_by, entries_by, ArePlayed, all, AreListed}
+use Rattle.config_assembly.specs.Orders.{Name}
+use Rattle.xds_history.specs.Setting.{Setting}
+use Rattle.xds_history.specs.Responses.{refused_texts}
+use Rattle.legal_history.specs.Legal.{AreOpen, AreStarted, EndsInSweep, is_read}
+use Rattle.legal_history.proofs.Rows.{a_node, response, setting_with, key_from, driven, on_line, replayed, as_made, snapshots, Step, steps, AreNumbered, at_most}
+
+abbrev text0 : Name
+text0 = codes "svc"
+
+abbrev text1 : Name
+text1 = codes "web"
+
+abbrev text2 : Name
+text2 = codes "1"
+
+abbrev text3 : Name
+text3 = codes "n1"
+
+abbrev text4 : Name
+text4 = codes "h"
+
+abbrev text5 : Name
+text5 = codes "*"
+
+abbrev text6 : Name
+text6 = codes "/"
+
+abbrev text7 : Name
+text7 = codes "r"
+
+abbrev routes8 : RouteValue
+routes8 = (record { name = text7; hosts = ((record { name = text4; domains = (text5 ∷ []); routes = ((record { place = 0; path = (PathTest.Prefix text6 true); headers = ([]); fraction = None; action = (Action.To ((record { cluster = text1; weight = 1 }) ∷ [])) }) ∷ []) }) ∷ []) })
+
+abbrev text9 : Name
+text9 = codes "n2"
+
+abbrev key : Kind → Name → Key
+key = key_from ([])
+
+abbrev set : Setting
+set = setting_with key 1 text0 text0
+    (response 0 text2 text3 (0 ∷ []) ∷ response 2 text2 text9 (1 ∷ []) ∷ [])
+    ((Ok (record { name = text0; value = (Value.Listener (record { name = text0; routes = (RoutesFrom.Inline routes8) })) })) ∷ (Ok (record { name = text1; value = (Value.Cluster (record { name = text1; shape = (Shape.Eds []) })) })) ∷ [])
+
+abbrev entry1 : Entry
+entry1 = on_line 0 5 (driven (DriverEvent.Opened (record { 0 = 0 })) Verdict.Done (Some (key Kind.Listener text0)) ((record { authority = (record { 0 = 0 }); request = (record { kind = Kind.Listener; version = []; nonce = []; names = (text0 ∷ []); node = (Some a_node); error = None }) }) ∷ []) None ([]))
+
+abbrev entry2 : Entry
+entry2 = on_line 0 6 (driven (DriverEvent.Response (record { 0 = 0 }) (0 ∷ [])) (Verdict.Ack Kind.Listener) (Some (key Kind.Cluster text1)) ((record { authority = (record { 0 = 0 }); request = (record { kind = Kind.Listener; version = text2; nonce = text3; names = (text0 ∷ []); node = None; error = None }) }) ∷ (record { authority = (record { 0 = 0 }); request = (record { kind = Kind.Cluster; version = []; nonce = []; names = (text1 ∷ []); node = None; error = None }) }) ∷ []) None ([]))
+
+abbrev entry3 : Entry
+entry3 = on_line 0 6 (driven (DriverEvent.Response (record { 0 = 0 }) (1 ∷ [])) (Verdict.Ack Kind.Cluster) (Some (key Kind.Endpoint text1)) ((record { authority = (record { 0 = 0 }); request = (record { kind = Kind.Cluster; version = text2; nonce = text9; names = (text1 ∷ []); node = None; error = None }) }) ∷ (record { authority = (record { 0 = 0 }); request = (record { kind = Kind.Endpoint; version = []; nonce = []; names = (text1 ∷ []); node = None; error = None }) }) ∷ []) None ([]))
+
+abbrev entry4 : Entry
+entry4 = on_line 0 6 (driven (DriverEvent.Bytes (record { 0 = 0 }) BytesHow.Whole) Verdict.Done (Some (key Kind.Endpoint text1)) ([]) None ([]))
+
+abbrev entry5 : Entry
+entry5 = on_line 0 0 (driven DriverEvent.Sweep Verdict.Done (Some (key Kind.Endpoint text1)) ([]) None ([]))
+
+-- the newest first
+abbrev pub history : List Entry
+history = entry5 ∷ entry4 ∷ entry3 ∷ entry2 ∷ entry1 ∷ []
+
+replies : replayed set ([]) history ≡ as_made history
+unfolding leaves_within goes_on ends
+replies = refl
+
+-- what entries tell as refused, the oldest entry's first: seen where none is told, or the newest first
+pub refused : refused_texts history ≡ ([])
+refused = refl
+
+published : snapshots set history ≡ []
+unfolding leaves_within goes_on ends
+published = refl
+
+-- what stands at each driver's entry, and its number: seen where the first snapshot isn't 1, where one is published that
+-- shows nothing new, or where one that does isn't
+abbrev told : List Step
+told = ((record { stands = None; last = None; number = None }) ∷ (record { stands = None; last = None; number = None }) ∷ (record { stands = None; last = None; number = None }) ∷ (record { stands = None; last = None; number = None }) ∷ (record { stands = None; last = None; number = None }) ∷ [])
+
+stood : steps set history ≡ told
+unfolding leaves_within goes_on ends
+stood = refl
+
+numbered : AreNumbered told
+numbered = (refl, (refl, (refl, (refl, (refl, tt)))))
+
+abbrev line5 : Line
+line5 = (record { number = 5; gate = None; work = (Work.Driver (DriverLine.Opened (record { 0 = 0 }))) })
+
+abbrev line6 : Line
+line6 = (record { number = 6; gate = None; work = (Work.Driver (DriverLine.Bytes (record { 0 = 0 }) (0 ∷ 0 ∷ 0 ∷ 0 ∷ 1 ∷ 0 ∷ 0 ∷ 0 ∷ 0 ∷ 0 ∷ 1 ∷ 1 ∷ []))) })
+
+abbrev lines : List Line
+lines = line5 ∷ line6 ∷ []
+
+-- the oldest first
+abbrev entries : List Entry
+entries = entry1 ∷ entry2 ∷ entry3 ∷ entry4 ∷ entry5 ∷ []
+
+-- each line's events once and in order: seen where a line is left out, or comes twice
+each : (caller : ℕ) → 1 ≤ caller → caller ≤ 1 → ArePlayed (lines_by caller lines) (entries_by caller entries)
+each zero low high = absurd (omega (arith, low))
+each (suc zero) low high = all
+each (suc (suc n)) low high = absurd (omega (arith, high))
+
+-- seen where the driver lists nothing, no responses, or not the last sweep
+listed : AreListed (is_read set) 1 lines entries
+unfolding driver_list cut cut_within first_frame fault_at
+listed = record { driver = refl; each_caller = each; actors = All-from_recursion (λ entry. entry.actor ≤ 1) entries (at_most 0 1 refl, (at_most 0 1 refl, (at_most 0 1 refl, (at_most 0 1 refl, (at_most 0 1 refl, tt))))) }
+
+started1 : AreStarted (entries_by 1 entries)
+started1 = tt
+
+-- seen where a line's end isn't told, so that a gate stays shut
+opened : AreOpen lines history
+opened = (tt, (tt, (tt, (tt, (tt, tt)))))
+
+swept : EndsInSweep history
+swept = refl
