@@ -1,0 +1,9 @@
+pub mod BookDriver
+pub mod BookFates
+pub mod ChannelCalls
+pub mod ClusterTree
+pub mod DepManager
+pub mod HeaderMatch
+pub mod XdsBook
+pub mod XdsCache
+pub mod XdsConfig

@@ -1,0 +1,8 @@
+//! A channel, and what its threads hold, may cross threads.
+#![tactic(auto)]
+
+pub mod crossing_laws;
+
+pub use crossing_laws::{
+    channel_is_sent, channel_is_shared, lane_is_sent, snapshot_is_sent, snapshot_is_shared,
+};
