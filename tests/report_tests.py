@@ -350,6 +350,11 @@ class CommandLine(unittest.TestCase):
         self.assertEqual(done.returncode, 0)
         self.assertTrue(done.stdout.startswith(b"Why call 1 went where it went:"))
 
+    def test_why_in_the_document(self):
+        example = ROOT / "examples" / "pick_fails_when_failing"
+        said = run("--text", "--why", "0", f"{example}.expected", f"{example}.session").stdout.decode()
+        self.assertIn(f"```\n{said.rstrip()}\n```\n", (ROOT / "docs" / "REPORTS.md").read_text())
+
     def test_help(self):
         done = run("-h")
         self.assertEqual((done.returncode, done.stderr), (0, b""))
