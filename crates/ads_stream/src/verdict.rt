@@ -2,7 +2,7 @@
 use xc_base::Kind;
 
 /// What became of a driver's event (Envoy's xDS protocol, "ACK and NACK").
-#[derive(Clone, Copy, Debug, PartialEq, Eq)]
+#[derive(Clone, Copy, PartialEq, Eq)]
 pub enum Verdict {
     /// The event took its course.
     Done,

@@ -16,7 +16,7 @@ use std::sync::ledger::Ledger;
 use xc_base::{List, Steps, Text};
 
 /// The most clusters in a chain.
-const LONGEST_CHAIN: u32 = 16;
+pub const LONGEST_CHAIN: u32 = 16;
 
 /// Finds the leaves on chains from the cluster, which ends a chain of this length. What was visited at the
 /// same length is passed over.

@@ -8,7 +8,7 @@ pub mod leaf_laws;
 pub mod lookup;
 pub mod visits;
 
-pub use expand::leaves;
+pub use expand::{LONGEST_CHAIN, leaves};
 pub use expand_fault::ExpandFault;
 pub use leaf_laws::{leaves_are_led_to, leaves_rest_on_chains};
 pub use lookup::Lookup;

@@ -74,7 +74,7 @@ impl Watcher {
         ensures changed { IfOk result (λ heard. IsRightBy self.old.boot.authorities self.old.fates.cache self.old.deps → HaveChanged self.new.boot.authorities self.new.deps self.new.fates.cache heard.changed) }
     {
         let heard = hear(self.alloc, &mut self.streams, event, prepared)?;
-        let touched = self.fates.touched(self.alloc, &heard.answered)?;
+        let touched = self.fates.touched_keys(self.alloc, &heard.answered)?;
         let brought = (heard.verdict, heard.answered);
         let expired = mark(&mut self.fates, event, brought, now, steps)?;
         Ok(Intake {

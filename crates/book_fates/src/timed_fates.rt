@@ -39,7 +39,11 @@ pub struct Fates {
 impl Fates {
     /// The watched keys that an answered response can change: those of its kind and home that it names, or that it may delete.
     /// There are none without a response. It fails for want of memory alone.
-    pub fn touched(&self, alloc: Global, response: &Option<Answered>) -> Result<List<Key>, Memory>
+    pub fn touched_keys(
+        &self,
+        alloc: Global,
+        response: &Option<Answered>,
+    ) -> Result<List<Key>, Memory>
         requires { IfSome response.now IsReady }
         ensures { IfOk result (λ keys. keys ≡ touched_by response.now self.now.reached) }
     {

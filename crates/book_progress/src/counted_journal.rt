@@ -6,13 +6,10 @@ ghost use Rattle.book_progress.specs.ProgressKept.{counts_of, most_entries};
 
 use crate::entry_counts::ends_line;
 use crate::progress::Progress;
-use call_journal::{Count, Entry, Journal};
+use call_journal::{Count, Entry, Journal, MOST_ENTRIES};
 use std::alloc::Global;
 use std::marker::Model;
 use xc_base::Memory;
-
-/// The most entries that the journal of a channel has.
-pub const MOST_ENTRIES: u32 = 1_048_576;
 
 /// The lines of a session that come before its first entry: each later one makes an entry at least. Of a session that has
 /// room for so many entries this many lines more are kept.

@@ -6,6 +6,9 @@ use std::alloc::{AllocError, Global};
 use std::marker::Model;
 use xc_base::Memory;
 
+/// The most entries that the journal of a channel has.
+pub const MOST_ENTRIES: u32 = 1_048_576;
+
 /// The entries of a journal. Contracts see them with the newest first, and how many more the journal takes without
 /// memory.
 #[derive(Drop)]

@@ -9,6 +9,6 @@ pub mod reply;
 
 pub use entry::{Entry, What};
 pub use event::{BytesHow, CallerEvent, DriverEvent};
-pub use journal::Journal;
+pub use journal::{Journal, MOST_ENTRIES};
 pub use plan::{Count, Listed, ListedEvent, Plan};
 pub use reply::{CallerReply, DriverReply, Sent};

@@ -199,6 +199,17 @@ impl<J: Job> Channel<J> {
         locked.into_inner().into_book()
     }
 
+    /// Ends the channel for want of memory, if it hasn't ended. Who plays on it calls this where memory is wanted outside its
+    /// calls, so that nobody waits any more for a line that isn't played. It takes no memory.
+    pub fn run_out<R: Wait>(&self, rt: &R) -> ChanFault
+        ensures { (count : CountValue) → IsCauseAt count result }
+    {
+        let mut locked = self.locked.lock(rt);
+        let fault = locked.run_out();
+        self.leave(locked);
+        fault
+    }
+
     /// Takes the lock, and waits in it until the line that has to end before a step of the lane has ended, or the step can't
     /// be made.
     fn enter<R: Wait>(
@@ -223,16 +234,6 @@ impl<J: Job> Channel<J> {
         if has_news {
             self.told.notify_all();
         }
-    }
-
-    /// Ends the channel for want of memory, if it hasn't ended.
-    fn run_out<R: Wait>(&self, rt: &R) -> ChanFault
-        ensures { (count : CountValue) → IsCauseAt count result }
-    {
-        let mut locked = self.locked.lock(rt);
-        let fault = locked.run_out();
-        self.leave(locked);
-        fault
     }
 
     /// Pins the latest snapshot for a call. The token is None where none was published.

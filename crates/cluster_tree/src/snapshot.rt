@@ -5,7 +5,7 @@ use xds_config::Config;
 
 /// What is published at once: a whole configuration, and the trees of its clusters in their order (gRFC
 /// A74).
-#[derive(Debug, Drop)]
+#[derive(Drop)]
 pub struct Snapshot {
     /// Snapshots are numbered from 1.
     pub number: u32,

@@ -14,14 +14,12 @@ ghost use Rattle.config_assembly.specs.DepsViews.{seen, seen_key, seen_name, see
 use crate::front::put_front;
 use crate::ordered::{in_order, keys_in_order, put_key, put_names};
 use crate::sight::Sight;
+use aggregate_expand::LONGEST_CHAIN;
 use std::collections::BTreeSet;
 use std::sync::ledger::Ledger;
 use xc_base::{Key, Kind, List, Memory, Reason, Steps, Text};
 use xds_cache::{Cache, Fate};
 use xds_config::{Front, RoutesFrom, Shape, Value};
-
-/// The most clusters in a chain.
-const LONGEST_CHAIN: u32 = 16;
 
 /// The children of an aggregate that has a value.
 pub fn children_of<'a>(fate: Fate<'a>) -> Option<&'a List<Text>>

@@ -25,7 +25,7 @@ use Rattle.config_assembly.specs.Watching.{IsWatching, has_key}
 use Rattle.config_assembly.proofs.ReachLemmas.{whole_where}
 use Rattle.dep_manager.specs.Laws.{AgreeAt, with_fates}
 use Rattle.dep_manager.specs.KeptAssemblies.{AreChanges, HaveChanged, IsAssembledOf, IsKeptOf, Managed, config_if, config_so_far, least_of, source_of, sources_of}
-use Rattle.dep_manager.specs.Outcomes.{IsOutcomeBy, outcome_of}
+use Rattle.dep_manager.specs.UpdateOutcomes.{IsOutcomeBy, outcome_of}
 use Rattle.dep_manager.specs.declared.kept_assembly.Kept.{Kept}
 use Rattle.dep_manager.proofs.DecideLemmas.{at_cluster, at_route, at_target, entry_same}
 use Rattle.dep_manager.proofs.ReachSteps.{found_same, front_same, has_member, is_reached, leaf_on_chain, map_same, reach_same, roots_same, waits_same}

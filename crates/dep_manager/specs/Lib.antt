@@ -1,5 +1,5 @@
 pub mod EndpointNews
 pub mod KeptAssemblies
 pub mod Laws
-pub mod Outcomes
+pub mod UpdateOutcomes
 pub mod RenewedConfigs

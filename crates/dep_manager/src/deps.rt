@@ -15,10 +15,10 @@ ghost use Rattle.config_assembly.specs.DepsViews.{seen};
 ghost use Rattle.config_assembly.specs.Watching.{IsKept, IsWatching};
 ghost use Rattle.dep_manager.specs.EndpointNews.{are_endpoints};
 ghost use Rattle.dep_manager.specs.KeptAssemblies.{AreChanges, HaveChanged, IsKeptOf, IsRightBy};
-ghost use Rattle.dep_manager.specs.Outcomes.{IsOutcomeBy, outcome_of};
+ghost use Rattle.dep_manager.specs.UpdateOutcomes.{IsOutcomeBy, outcome_of};
 ghost use Rattle.dep_manager.specs.declared.kept_assembly.Kept.{Kept as KeptValue};
 
-use crate::kept_assembly::{Assembly, Kept, assembly_of, following, renewed};
+use crate::kept_assembly::{Assembly, Kept, assembly_of, last_to_follow, renew};
 use config_assembly::Sight;
 use config_assembly::ordered::copy_keys;
 use config_assembly::watching::watch_reached;
@@ -61,25 +61,6 @@ impl Model for Deps {
     ghost view = { λ d. record { target = d.target; reached = d.reached; last = d.last } };
 
     ghost invariant = { λ d. d.target.key.kind ≡ ListenerKind };
-}
-
-/// What is reached, awaited and configured by what the cache of this sight knows, where these are the clusters that
-/// calls hold or have pinned. Nothing that is watched changes.
-pub fn assembled<L: Ledger>(
-    sight: Sight<'_>,
-    references: &[Text],
-    steps: &mut Steps<L>,
-) -> Result<Outcome, Memory>
-    requires { (seen sight).target.key.kind ≡ ListenerKind }
-    ensures reached { IfOk result (λ o. o.reached ≡ reach (seen sight.entry) references.now) }
-    ensures missing { IfOk result (λ o. o.missing ≡ missing (seen sight.entry).fate o.reached) }
-    ensures config { IfOk result (λ o. o.config ≡ config_where o.missing (seen sight.entry) references.now) }
-    ensures whole { IfOk result (λ o. IsSome o.config ↔ IsNone o.missing) }
-    ensures lawful { IfOk result (λ o. IfSome o.config IsLawfulConfig) }
-{
-    let made = assembly_of(sight, references, steps)?;
-    let outcome = outcome_of(made.reached, &made.kept)?;
-    Ok(outcome)
 }
 
 /// What an update comes to that reached these keys and made this.
@@ -129,7 +110,7 @@ impl Deps {
         ensures endpoints { IfSome result (λ kept. are_endpoints changed.now ≡ true) }
         ensures some { (kept : KeptValue) → self.old.last ≡ Some kept → references.now ≡ kept.references → are_endpoints changed.now ≡ true → result ≡ Some kept }
     {
-        following(self.last.take(), changed, references)
+        last_to_follow(self.last.take(), changed, references)
     }
 
     /// Brings what the last update made up to date, where none but these Endpoint keys changed.
@@ -149,7 +130,7 @@ impl Deps {
         ensures cost { steps.new ≤ steps.old + length changed.now }
         ensures rises { steps.old ≤ steps.new }
     {
-        let kept = renewed(alloc, last, changed.as_slice(), cache, steps)?;
+        let kept = renew(alloc, last, changed.as_slice(), cache, steps)?;
         let reached = copy_keys(alloc, self.reached.as_slice())?;
         let outcome = self.keep(alloc, Assembly { reached, kept })?;
         Ok(outcome)

@@ -137,7 +137,7 @@ pub fn assembly_of<L: Ledger>(
 // ---- from what was kept
 
 /// What was kept, where these keys that changed are keys of Endpoint resources and calls refer to the same clusters.
-pub fn following(last: Option<Kept>, changed: &[Key], references: &List<Text>) -> Option<Kept>
+pub fn last_to_follow(last: Option<Kept>, changed: &[Key], references: &List<Text>) -> Option<Kept>
     ensures kept { IfSome result (λ kept. last ≡ Some kept) }
     ensures references { IfSome result (λ kept. references.now ≡ kept.references) }
     ensures endpoints { IfSome result (λ kept. are_endpoints changed.now ≡ true) }
@@ -154,7 +154,7 @@ pub fn following(last: Option<Kept>, changed: &[Key], references: &List<Text>) -
 }
 
 /// What was kept, brought up to date where none but these Endpoint keys changed. Each counts one step.
-pub fn renewed<L: Ledger>(
+pub fn renew<L: Ledger>(
     alloc: Global,
     last: Kept,
     changed: &[Key],

@@ -9,5 +9,5 @@ pub mod endpoint_news;
 pub mod kept_assembly;
 pub mod leaf_sources;
 
-pub use deps::{Deps, Outcome, assembled};
+pub use deps::{Deps, Outcome};
 pub use deps_laws::{fates_of_reached_keys_decide, reached_by_chains};

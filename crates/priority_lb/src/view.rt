@@ -2,7 +2,7 @@
 use xc_base::State;
 
 /// A child of a priority balancer as it is seen (gRFC A56).
-#[derive(Clone, Copy, Debug, PartialEq, Eq)]
+#[derive(Clone, Copy, PartialEq, Eq)]
 pub struct ChildView {
     /// Whether it exists.
     pub there: bool,

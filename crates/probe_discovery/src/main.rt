@@ -2,12 +2,12 @@
 //! compared with another implementation of these messages.
 #![tactic(auto)]
 
-pub mod answer;
+pub mod request_of_response;
 pub mod show;
 pub mod show_fault;
 
-use answer::request_of;
 use proto_discovery::{Response, read_response, write_request};
+use request_of_response::request_of;
 use show::response_text;
 use show_fault::Fault;
 use std::alloc::Global;

@@ -19,7 +19,7 @@ use xc_base::{Sink, Source, StdSink, StdSource, read_all, write_all};
 const MOST: u32 = 67_108_864;
 
 /// What is shown of an answer.
-#[derive(Clone, Copy, Debug, PartialEq, Eq)]
+#[derive(Clone, Copy, PartialEq, Eq)]
 enum How {
     /// The value, or the name and the reason.
     Whole,

@@ -7,7 +7,7 @@ use std::alloc::{AllocError, AllocFailed};
 use xc_base::{Failed, ReadFault};
 
 /// Why a run gave no answer.
-#[derive(Clone, Copy, Debug, PartialEq, Eq)]
+#[derive(Clone, Copy, PartialEq, Eq)]
 pub enum Fault {
     /// The words aren't the one word `show` or `judge`.
     Words,

@@ -17,7 +17,7 @@ use xc_base::{Failed, ReadFault, Sink, Source, StdSink, StdSource, read_all, wri
 const MOST: u32 = 67_108_865;
 
 /// Why nothing is shown.
-#[derive(Clone, Copy, Debug, PartialEq, Eq)]
+#[derive(Clone, Copy, PartialEq, Eq)]
 enum Fault {
     /// The input failed.
     Read,

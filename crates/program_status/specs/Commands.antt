@@ -6,8 +6,8 @@ use Rattle.session_lines.specs.WordValues.{number_within}
 use Rattle.program_status.specs.declared.commands.Command.{Command}
 
 -- `gen` or `load`, and a number of rounds
-abbrev pub counted : List ℕ → List ℕ → Option Command
-counted word number =
+abbrev pub command_with_number : List ℕ → List ℕ → Option Command
+command_with_number word number =
     if bytes_eq word (codes "gen") then option_map Command.Gen (number_within 1 1000 number)
     else if bytes_eq word (codes "load") then option_map Command.Load (number_within 1 1000 number)
     else None
@@ -16,7 +16,7 @@ counted word number =
 abbrev pub command_of : List (String Global) → Option Command
 command_of [] = None
 command_of (word ∷ []) = if bytes_eq (string_bytes word) (codes "run") then Some Command.Run else None
-command_of (word ∷ number ∷ []) = counted (string_bytes word) (string_bytes number)
+command_of (word ∷ number ∷ []) = command_with_number (string_bytes word) (string_bytes number)
 command_of (word ∷ number ∷ more ∷ words) = None
 
 abbrev pub HasRounds : Command → Type 0

@@ -20,7 +20,7 @@ status_of (fault.Script line cause) = status.Session line cause
 status_of fault.Memory = status.Memory
 
 -- the status of what was written
-abbrev pub written : Result Unit OutFault → Status
-written (Ok done) = status.Done
-written (Err out.WriteFault) = status.WriteFault
-written (Err out.Memory) = status.Memory
+abbrev pub write_status : Result Unit OutFault → Status
+write_status (Ok done) = status.Done
+write_status (Err out.WriteFault) = status.WriteFault
+write_status (Err out.Memory) = status.Memory

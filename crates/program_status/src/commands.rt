@@ -1,7 +1,7 @@
 //! The commands of the program.
 ghost use Rattle.std.specs.Prelude.{◌≡◌, ◌≤◌, IfSome};
 ghost use Rattle.session_lines.specs.WordValues.{number_within};
-ghost use Rattle.program_status.specs.Commands.{HasRounds, command_of, counted};
+ghost use Rattle.program_status.specs.Commands.{HasRounds, command_of, command_with_number};
 
 use xc_base::read_number;
 
@@ -9,7 +9,7 @@ use xc_base::read_number;
 const MOST_ROUNDS: u64 = 1000;
 
 /// What the program is asked to do.
-#[derive(Clone, Copy, Debug, PartialEq, Eq)]
+#[derive(Clone, Copy, PartialEq, Eq)]
 pub enum Command {
     /// Plays the session of the source, and reports it.
     Run,
@@ -32,8 +32,8 @@ fn rounds(word: &str) -> Option<u32>
 }
 
 /// The command of a word and a number.
-fn counted(word: &str, number: &str) -> Option<Command>
-    ensures command { result ≡ counted word.now number.now }
+fn command_with_number(word: &str, number: &str) -> Option<Command>
+    ensures command { result ≡ command_with_number word.now number.now }
     ensures rounds { IfSome result HasRounds }
 {
     if word == "gen" {
@@ -52,7 +52,7 @@ pub fn command_of(words: &[String]) -> Option<Command>
 {
     match words {
         [word] if word.as_str() == "run" => Some(Command::Run),
-        [word, number] => counted(word.as_str(), number.as_str()),
+        [word, number] => command_with_number(word.as_str(), number.as_str()),
         _ => None,
     }
 }

@@ -5,4 +5,4 @@ pub mod commands;
 pub mod statuses;
 
 pub use commands::{Command, command_of};
-pub use statuses::{Status, read_status, status_of, written};
+pub use statuses::{Status, read_status, status_of, write_status};

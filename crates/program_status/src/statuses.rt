@@ -1,13 +1,13 @@
 //! How a run ended.
 ghost use Rattle.std.specs.Prelude.{◌≡◌};
-ghost use Rattle.program_status.specs.Statuses.{read_status, status_of, written};
+ghost use Rattle.program_status.specs.Statuses.{read_status, status_of, write_status};
 
 use line_output::OutFault;
 use session_lines::{Cause, SessionFault};
 use xc_base::ReadFault;
 
 /// How a run ended.
-#[derive(Clone, Copy, Debug, PartialEq, Eq)]
+#[derive(Clone, Copy, PartialEq, Eq)]
 pub enum Status {
     /// The command did its work.
     Done,
@@ -58,8 +58,8 @@ pub fn status_of(fault: SessionFault) -> Status
 }
 
 /// The status of what was written.
-pub fn written(outcome: Result<(), OutFault>) -> Status
-    ensures { result ≡ written outcome }
+pub fn write_status(outcome: Result<(), OutFault>) -> Status
+    ensures { result ≡ write_status outcome }
 {
     match outcome {
         Ok(()) => Status::Done,

@@ -2,7 +2,7 @@
 -- endpoints 2, policy 4; Policy: drop_overloads 2; DropOverload: category 1, drop_percentage 2).
 use Rattle.std.specs.Prelude.{ℕ, List, Result, Ok}
 use Rattle.proto_wire.specs.Reading.{◌>>=◌}
-use Rattle.proto_wire.specs.Values.{last_text, read_repeated, read_singular}
+use Rattle.proto_wire.specs.FieldValues.{last_text, read_repeated, read_singular}
 use Rattle.proto_wire.specs.Wire.{fields}
 use Rattle.proto_route.specs.Fraction.{fractional_percent_of}
 use Rattle.proto_cluster.specs.Locality.{locality_endpoints_of}

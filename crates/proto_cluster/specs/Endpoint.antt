@@ -2,7 +2,7 @@
 -- Endpoint: address 1; envoy.config.core.v3: Address: socket_address 1; SocketAddress: address 2, port_value 3).
 use Rattle.std.specs.Prelude.{ℕ, List, Result, Ok}
 use Rattle.proto_wire.specs.Reading.{◌>>=◌}
-use Rattle.proto_wire.specs.Values.{last_text, last_uint32, read_singular}
+use Rattle.proto_wire.specs.FieldValues.{last_text, last_uint32, read_singular}
 use Rattle.proto_wire.specs.Wire.{fields}
 use Rattle.proto_cluster.specs.declared.endpoint.RawSocket.{RawSocket}
 use Rattle.proto_cluster.specs.declared.endpoint.RawAddress.{RawAddress}

@@ -3,7 +3,7 @@
 -- sub_zone 3).
 use Rattle.std.specs.Prelude.{ℕ, List, Result, Ok}
 use Rattle.proto_wire.specs.Reading.{◌>>=◌}
-use Rattle.proto_wire.specs.Values.{last_text, last_uint32, read_repeated, read_singular}
+use Rattle.proto_wire.specs.FieldValues.{last_text, last_uint32, read_repeated, read_singular}
 use Rattle.proto_wire.specs.Wire.{fields}
 use Rattle.proto_wire.specs.Wrappers.{uint32_value}
 use Rattle.proto_cluster.specs.Endpoint.{lb_endpoint_of}

@@ -7,8 +7,8 @@ ghost use Rattle.proto_cluster.specs.declared.cluster.RawClusterOne.TheVariants.
 use proto_discovery::AnyValue;
 use proto_route::RawConfigSource;
 use proto_wire::{
-    Member, Message, WireFault, fields, if_set, joined, last_text, last_uint32, occurrences,
-    oneof_of, read_member, read_singular,
+    Member, Message, WireFault, fields, if_set, join_occurrences, last_text, last_uint32,
+    occurrences, oneof_of, read_member, read_singular,
 };
 use std::alloc::Global;
 use xc_base::{List, Text};
@@ -107,8 +107,8 @@ impl Message for RawCluster {
         let discovery = last_uint32(&list, 2);
         let eds_cluster_config = read_singular::<RawEds>(alloc, &list, 3)?;
         let lb_policy = last_uint32(&list, 6);
-        let circuit_breakers = joined(alloc, &list, 10)?;
-        let load_assignment = joined(alloc, &list, 33)?;
+        let circuit_breakers = join_occurrences(alloc, &list, 10)?;
+        let load_assignment = join_occurrences(alloc, &list, 33)?;
         let cluster_type = read_member::<RawClusterType>(alloc, &members, 38)?;
         let one = if_set(set, 2, RawClusterOne::Discovery(discovery)).or(by_type(cluster_type));
         Ok(RawCluster {

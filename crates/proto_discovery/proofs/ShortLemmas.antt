@@ -2,7 +2,7 @@
 use Rattle.std.proofs.Common.{◌≡◌, ◌≤◌, ℕ, List, [], length, Option, Some, None, Result, Ok, Err, ap, arith}
 use Rattle.std.specs.Prelude.{unwrap_or, All, IfSome}
 use Rattle.proto_wire.specs.Reading.{◌>>=◌}
-use Rattle.proto_wire.specs.Values.{delimited_len, last_bytes, last_text, read_repeated, read_singular}
+use Rattle.proto_wire.specs.FieldValues.{delimited_len, last_bytes, last_text, read_repeated, read_singular}
 use Rattle.proto_wire.specs.Wire.{WireField, fields}
 use Rattle.proto_wire.proofs.WithinLemmas.{both_ok, fields-within, last_bytes-within, read_repeated-within, read_singular-within}
 use Rattle.proto_discovery.specs.Any.{any_of, empty_any}

@@ -1,7 +1,7 @@
 -- What the bytes of an Any say (google.protobuf.Any: type_url 1, value 2).
 use Rattle.std.specs.Prelude.{ℕ, List, [], Result, Ok}
 use Rattle.proto_wire.specs.Reading.{◌>>=◌}
-use Rattle.proto_wire.specs.Values.{last_text, last_bytes}
+use Rattle.proto_wire.specs.FieldValues.{last_text, last_bytes}
 use Rattle.proto_wire.specs.Wire.{fields}
 use Rattle.proto_discovery.specs.declared.any.AnyValue.{AnyValue}
 

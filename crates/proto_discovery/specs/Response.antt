@@ -2,7 +2,7 @@
 -- type_url 4, nonce 5).
 use Rattle.std.specs.Prelude.{ℕ, List, Result, Ok}
 use Rattle.proto_wire.specs.Reading.{◌>>=◌}
-use Rattle.proto_wire.specs.Values.{last_text, read_repeated}
+use Rattle.proto_wire.specs.FieldValues.{last_text, read_repeated}
 use Rattle.proto_wire.specs.Wire.{fields}
 use Rattle.proto_discovery.specs.Any.{any_of}
 use Rattle.proto_discovery.specs.declared.response.Response.{Response}

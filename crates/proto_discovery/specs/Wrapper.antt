@@ -2,7 +2,7 @@
 use Rattle.std.specs.Prelude.{ℕ, List, [], ◌∷◌, Option, None, Some, Result, Ok, unwrap_or, if◌then◌else◌}
 use Rattle.std.specs.Str.{bytes_eq}
 use Rattle.proto_wire.specs.Reading.{◌>>=◌}
-use Rattle.proto_wire.specs.Values.{last_text, read_singular}
+use Rattle.proto_wire.specs.FieldValues.{last_text, read_singular}
 use Rattle.proto_wire.specs.Wire.{fields}
 use Rattle.proto_discovery.specs.Any.{any_of, empty_any}
 use Rattle.proto_discovery.specs.TypeUrls.{wrapper_url}

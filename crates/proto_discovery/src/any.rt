@@ -4,7 +4,7 @@ use std::alloc::Global;
 use xc_base::{List, Memory, Text};
 
 /// A message of any type (`google.protobuf.Any`).
-#[derive(Debug, Drop)]
+#[derive(Drop)]
 pub struct AnyValue {
     /// The URL of its type, by which `kind_of` tells the kind of a resource.
     pub type_url: Text,

@@ -17,7 +17,7 @@ const RESOURCE_IN_SOTW: &str = "xds.config.resource-in-sotw";
 const INVALID_ARGUMENT: u64 = 3;
 
 /// A DiscoveryRequest (Envoy's xDS transport): it asks for names of a kind, and answers the last response.
-#[derive(Clone, Debug, Drop, PartialEq, Eq)]
+#[derive(Clone, Drop, PartialEq, Eq)]
 pub struct Request {
     /// The kind of the resources that are asked for.
     pub kind: Kind,

@@ -2,7 +2,7 @@
 -- api_listener 1).
 use Rattle.std.specs.Prelude.{ℕ, List, Result, Ok}
 use Rattle.proto_wire.specs.Reading.{◌>>=◌}
-use Rattle.proto_wire.specs.Values.{last_text, read_singular}
+use Rattle.proto_wire.specs.FieldValues.{last_text, read_singular}
 use Rattle.proto_wire.specs.Wire.{fields}
 use Rattle.proto_discovery.specs.Any.{any_of}
 use Rattle.proto_listener.specs.declared.listener.RawApiListener.{RawApiListener}

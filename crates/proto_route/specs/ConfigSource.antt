@@ -3,7 +3,7 @@
 use Rattle.std.specs.Prelude.{ℕ, List, [], ◌∷◌, Result, Ok}
 use Rattle.proto_wire.specs.Oneof.{if_set, ◌or◌}
 use Rattle.proto_wire.specs.Reading.{◌>>=◌}
-use Rattle.proto_wire.specs.Values.{occurrences, oneof_of}
+use Rattle.proto_wire.specs.FieldValues.{occurrences, oneof_of}
 use Rattle.proto_wire.specs.Wire.{fields}
 use Rattle.proto_wire.specs.declared.field.Member.TheVariants.{Bytes}
 use Rattle.proto_route.specs.declared.config_source.RawConfigSource.{RawConfigSource}

@@ -2,7 +2,7 @@
 -- denominator 2; envoy.config.core.v3: default_value 1).
 use Rattle.std.specs.Prelude.{ℕ, List, Result, Ok}
 use Rattle.proto_wire.specs.Reading.{◌>>=◌}
-use Rattle.proto_wire.specs.Values.{last_uint32, read_singular}
+use Rattle.proto_wire.specs.FieldValues.{last_uint32, read_singular}
 use Rattle.proto_wire.specs.Wire.{fields}
 use Rattle.proto_route.specs.declared.fractional_percent.RawFractionalPercent.{RawFractionalPercent}
 use Rattle.proto_route.specs.declared.fractional_percent.RawRuntimeFractionalPercent.{RawRuntimeFractionalPercent}

@@ -4,7 +4,7 @@
 use Rattle.std.specs.Prelude.{ℕ, List, [], ◌∷◌, Option, option_map, Result, Ok}
 use Rattle.proto_wire.specs.Oneof.{read_member, if_set, ◌or◌}
 use Rattle.proto_wire.specs.Reading.{◌>>=◌}
-use Rattle.proto_wire.specs.Values.{last_text, last_bool, last_int64, occurrences, oneof_of}
+use Rattle.proto_wire.specs.FieldValues.{last_text, last_bool, last_int64, occurrences, oneof_of}
 use Rattle.proto_wire.specs.Wire.{WireField, fields}
 use Rattle.proto_wire.specs.declared.field.Member.TheVariants.{Bytes, Varint}
 use Rattle.proto_route.specs.StringMatcher.{regex_matcher_of, string_matcher_of}

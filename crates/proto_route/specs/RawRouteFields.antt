@@ -2,7 +2,7 @@
 -- 2; VirtualHost: name 1, domains 2, routes 3; Route: match 1, route 2).
 use Rattle.std.specs.Prelude.{ℕ, List, Result, Ok}
 use Rattle.proto_wire.specs.Reading.{◌>>=◌}
-use Rattle.proto_wire.specs.Values.{last_text, texts, read_repeated, read_singular}
+use Rattle.proto_wire.specs.FieldValues.{last_text, texts, read_repeated, read_singular}
 use Rattle.proto_wire.specs.Wire.{fields}
 use Rattle.proto_route.specs.RouteAction.{route_action_of}
 use Rattle.proto_route.specs.RouteMatch.{route_match_of}

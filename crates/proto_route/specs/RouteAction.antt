@@ -4,7 +4,7 @@
 use Rattle.std.specs.Prelude.{ℕ, List, [], ◌∷◌, option_map, Result, Ok}
 use Rattle.proto_wire.specs.Oneof.{read_member, if_set, ◌or◌}
 use Rattle.proto_wire.specs.Reading.{◌>>=◌}
-use Rattle.proto_wire.specs.Values.{last_text, occurrences, oneof_of, read_repeated, read_singular}
+use Rattle.proto_wire.specs.FieldValues.{last_text, occurrences, oneof_of, read_repeated, read_singular}
 use Rattle.proto_wire.specs.Wire.{fields}
 use Rattle.proto_wire.specs.Wrappers.{uint32_value}
 use Rattle.proto_wire.specs.declared.field.Member.TheVariants.{Bytes}

@@ -3,7 +3,7 @@
 use Rattle.std.specs.Prelude.{ℕ, List, [], ◌∷◌, option_map, Result, Ok}
 use Rattle.proto_wire.specs.Oneof.{read_member, if_set, ◌or◌}
 use Rattle.proto_wire.specs.Reading.{◌>>=◌}
-use Rattle.proto_wire.specs.Values.{last_text, last_bool, occurrences, oneof_of}
+use Rattle.proto_wire.specs.FieldValues.{last_text, last_bool, occurrences, oneof_of}
 use Rattle.proto_wire.specs.Wire.{fields}
 use Rattle.proto_wire.specs.declared.field.Member.TheVariants.{Bytes}
 use Rattle.proto_route.specs.declared.string_matcher.RawRegexMatcher.{RawRegexMatcher}

@@ -1,7 +1,7 @@
 //! Tests of a header.
 ghost use Rattle.std.specs.Prelude.{◌≡◌, ◌<◌, ◌≤◌, ◌^◌, option_map, IfOk};
 ghost use Rattle.proto_wire.specs.Reading.{Gives};
-ghost use Rattle.proto_wire.specs.Values.{delimited_len};
+ghost use Rattle.proto_wire.specs.FieldValues.{delimited_len};
 ghost use Rattle.proto_wire.specs.View.{views};
 ghost use Rattle.proto_route.specs.HeaderMatcher.{header_test, header_tests};
 ghost use Rattle.proto_route.specs.declared.header_matcher.RawHeaderMatcherOne.TheVariants.{RangeMatch, SafeRegexMatch, StringMatch};

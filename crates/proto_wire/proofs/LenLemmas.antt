@@ -7,7 +7,7 @@ use Rattle.std.proofs.lemmas.List.Sums.{sum_by-cons, sum_by_push}
 use Rattle.proto_wire.specs.declared.field.Field.{Field}
 use Rattle.proto_wire.specs.View.{view, views}
 use Rattle.proto_wire.specs.Wire.{WireField, Payload, varint, eight, bytes, four}
-use Rattle.proto_wire.specs.Values.{delimited_len, payload_len, bytes_at, bytes_of, repeated, joined, joined_of}
+use Rattle.proto_wire.specs.FieldValues.{delimited_len, payload_len, bytes_at, bytes_of, repeated, joined, joined_of}
 
 pub delimited_len-none : delimited_len [] ≡ 0
 unfolding delimited_len

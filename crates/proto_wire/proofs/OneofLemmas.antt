@@ -10,7 +10,7 @@ use Rattle.proto_wire.specs.declared.field.Body.TheVariants.{Varint}
 use Rattle.proto_wire.specs.declared.field.Member.{Member}
 use Rattle.proto_wire.specs.View.{view, views}
 use Rattle.proto_wire.specs.Wire.{WireField}
-use Rattle.proto_wire.specs.Values.{occurrences, is_of, last_run, delimited_len}
+use Rattle.proto_wire.specs.FieldValues.{occurrences, is_of, last_run, delimited_len}
 use Rattle.proto_wire.proofs.Lists.{map_drop_more}
 use Rattle.proto_wire.proofs.LenLemmas.{delimited_len-filter}
 

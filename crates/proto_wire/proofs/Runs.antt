@@ -5,7 +5,7 @@ use Rattle.std.specs.List.{concat, last_or}
 use Rattle.std.proofs.lemmas.List.{drop_all}
 use Rattle.proto_wire.specs.Reading.{◌>>=◌}
 use Rattle.proto_wire.specs.declared.field.Field.{Field}
-use Rattle.proto_wire.specs.Values.{repeated, joined, joined_of}
+use Rattle.proto_wire.specs.FieldValues.{repeated, joined, joined_of}
 use Rattle.proto_wire.specs.View.{views}
 
 -- the bytes so far, with those that are left

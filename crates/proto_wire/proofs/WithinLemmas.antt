@@ -6,7 +6,7 @@ use Rattle.std.proofs.lemmas.List.{length-append}
 use Rattle.std.proofs.lemmas.List.Elements.{All-from_recursion}
 use Rattle.proto_wire.specs.Reading.{◌>>=◌, gathered, optional}
 use Rattle.proto_wire.specs.Spells.{SpellsPayload, SpellsField, SpellFrom}
-use Rattle.proto_wire.specs.Values.{bytes_at, delimited_len, joined, last_bytes, payload_len, read_repeated, read_singular, repeated}
+use Rattle.proto_wire.specs.FieldValues.{bytes_at, delimited_len, joined, last_bytes, payload_len, read_repeated, read_singular, repeated}
 use Rattle.proto_wire.specs.Wire.{Payload, WireField, varint, eight, bytes, four, fields}
 use Rattle.proto_wire.proofs.LenLemmas.{all-within, bytes_at-within, delimited_len-cons, delimited_len-none, joined-within}
 use Rattle.proto_wire.proofs.ListSpelling.{all_spelled}

@@ -1,6 +1,6 @@
 pub mod Wire
 pub mod View
-pub mod Values
+pub mod FieldValues
 pub mod Reading
 pub mod Spelling
 pub mod Oneof

@@ -2,7 +2,7 @@
 -- "Encoding": Oneofs).
 use Rattle.std.specs.Option.{option_or}
 use Rattle.std.specs.Prelude.{ℕ, List, ◌==◌, Option, Some, None, Result, if◌then◌else◌}
-use Rattle.proto_wire.specs.Values.{read_singular, last_run}
+use Rattle.proto_wire.specs.FieldValues.{read_singular, last_run}
 use Rattle.proto_wire.specs.Wire.{WireField}
 
 -- the message of a member, if that is the one set: it is read from its occurrences after those of any other one

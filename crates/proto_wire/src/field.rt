@@ -64,7 +64,7 @@ impl<T: Drop> From<AllocFailed<T>> for WireFault {
 
 impl<'a> Field<'a> {
     ghost use Rattle.std.specs.Prelude.{◌≡◌};
-    ghost use Rattle.proto_wire.specs.Values.{uint_at, bytes_at, is_of};
+    ghost use Rattle.proto_wire.specs.FieldValues.{uint_at, bytes_at, is_of};
     ghost use Rattle.proto_wire.specs.View.{view, seen_bytes};
 
     /// The varint that the field says of the number.

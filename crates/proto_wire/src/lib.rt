@@ -17,7 +17,7 @@ pub use nested::{Message, read_repeated, read_singular};
 pub use oneof::{if_set, read_member};
 pub use reading::fields;
 pub use values::{
-    joined, last_bool, last_bytes, last_int64, last_run, last_text, last_uint, last_uint32,
-    occurrences, oneof_of, repeated, repeated_copies, texts,
+    join_occurrences, last_bool, last_bytes, last_int64, last_run, last_text, last_uint,
+    last_uint32, occurrences, oneof_of, repeated, repeated_copies, texts,
 };
 pub use writing::{put_bytes, put_number, put_text, put_uint};

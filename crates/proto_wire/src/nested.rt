@@ -1,11 +1,11 @@
 //! Messages inside messages.
 ghost use Rattle.std.specs.Prelude.{◌≡◌, ◌<◌, ◌^◌, length};
 ghost use Rattle.proto_wire.specs.Reading.{Gives};
-ghost use Rattle.proto_wire.specs.Values.{read_repeated, read_singular, delimited_len};
+ghost use Rattle.proto_wire.specs.FieldValues.{read_repeated, read_singular, delimited_len};
 ghost use Rattle.proto_wire.specs.View.{views};
 
 use crate::field::{Field, WireFault};
-use crate::values::joined;
+use crate::values::join_occurrences;
 use std::alloc::Global;
 use xc_base::List;
 
@@ -24,7 +24,7 @@ pub trait Message: Drop {
 
 /// The repeated messages of the number, each read from its own bytes. `At` is a place in the first of
 /// them that can't be read.
-#[tactic(auto, unfolding(crate::specs::Values::read_repeated, crate::specs::Reading::gathered, crate::specs::Reading::optional))]
+#[tactic(auto, unfolding(crate::specs::FieldValues::read_repeated, crate::specs::Reading::gathered, crate::specs::Reading::optional))]
 pub fn read_repeated<M: Message>(
     alloc: Global,
     list: &[Field<'_>],
@@ -54,7 +54,7 @@ pub fn read_singular<M: Message>(
     requires { delimited_len (views list.now) < 2 ^ 32 }
     ensures { Gives (λ m. m) result (read_singular M.reading number (views list.now)) }
 {
-    match joined(alloc, list, number)? {
+    match join_occurrences(alloc, list, number)? {
         Some(bytes) => {
             let message = M::read(alloc, bytes.as_slice())?;
             Ok(Some(message))

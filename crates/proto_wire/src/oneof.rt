@@ -2,7 +2,7 @@
 ghost use Rattle.std.specs.Prelude.{◌≡◌, ◌<◌, ◌^◌};
 ghost use Rattle.proto_wire.specs.Oneof.{read_member, if_set};
 ghost use Rattle.proto_wire.specs.Reading.{Gives};
-ghost use Rattle.proto_wire.specs.Values.{delimited_len};
+ghost use Rattle.proto_wire.specs.FieldValues.{delimited_len};
 ghost use Rattle.proto_wire.specs.View.{views};
 
 use crate::field::{Field, WireFault};

@@ -2,7 +2,7 @@
 ghost use Rattle.std.specs.Prelude.{◌≡◌, ◌<◌, ◌≤◌, ◌^◌, ◌+◌, length, IfOk, IfSome};
 ghost use Rattle.std.specs.Int.{w32, w64};
 ghost use Rattle.proto_wire.specs.Reading.{Gives};
-ghost use Rattle.proto_wire.specs.Values.{payload_len, delimited_len};
+ghost use Rattle.proto_wire.specs.FieldValues.{payload_len, delimited_len};
 ghost use Rattle.proto_wire.specs.View.{seen, seen_delimited, seen_payload, seen_field, payload_of, views};
 ghost use Rattle.proto_wire.specs.Wire.{fixed_at, delimited_at, payload_at, field_at, fields};
 

@@ -2,7 +2,7 @@
 ghost use Rattle.std.specs.Prelude.{◌≡◌, ◌≤◌, ◌++◌, [], length, map, unwrap_or, Some, IfOk, IfSome};
 ghost use Rattle.std.specs.List.{list_any};
 ghost use Rattle.proto_wire.specs.Reading.{Gives};
-ghost use Rattle.proto_wire.specs.Values.{last_uint, last_uint32, last_int64, last_bool, last_bytes, last_text, texts, joined, repeated, oneof_of, occurrences, last_run, delimited_len, as_text, is_of};
+ghost use Rattle.proto_wire.specs.FieldValues.{last_uint, last_uint32, last_int64, last_bool, last_bytes, last_text, texts, joined, repeated, oneof_of, occurrences, last_run, delimited_len, as_text, is_of};
 ghost use Rattle.proto_wire.specs.View.{now, view, views};
 
 use crate::field::{Field, Member, WireFault};
@@ -11,7 +11,7 @@ use std::str;
 use xc_base::{List, Memory, Text};
 
 /// The last varint of the number, 0 where there is none. It takes no memory.
-#[tactic(auto, unfolding(crate::specs::Values::last_uint))]
+#[tactic(auto, unfolding(crate::specs::FieldValues::last_uint))]
 pub fn last_uint(list: &[Field<'_>], number: u32) -> u64
     ensures { result ≡ last_uint number (views list.now) }
 {
@@ -46,7 +46,7 @@ pub fn last_bool(list: &[Field<'_>], number: u32) -> bool
 }
 
 /// The last bytes of the number, empty where there are none. It takes no memory.
-#[tactic(auto, unfolding(crate::specs::Values::last_bytes, crate::specs::Values::repeated))]
+#[tactic(auto, unfolding(crate::specs::FieldValues::last_bytes, crate::specs::FieldValues::repeated))]
 pub fn last_bytes<'a>(list: &[Field<'a>], number: u32) -> &'a [u8]
     ensures { result.now ≡ last_bytes number (views list.now) }
 {
@@ -60,7 +60,7 @@ pub fn last_bytes<'a>(list: &[Field<'a>], number: u32) -> &'a [u8]
 }
 
 /// All bytes of the number, each as it stands.
-#[tactic(auto, unfolding(crate::specs::Values::repeated))]
+#[tactic(auto, unfolding(crate::specs::FieldValues::repeated))]
 pub fn repeated<'a>(alloc: Global, list: &[Field<'a>], number: u32) -> Result<Vec<&'a [u8]>, Memory>
     ensures { IfOk result (λ v. map now v.items ≡ repeated number (views list.now)) }
 {
@@ -74,7 +74,7 @@ pub fn repeated<'a>(alloc: Global, list: &[Field<'a>], number: u32) -> Result<Ve
 }
 
 /// Copies of all bytes of the number, each as it stands.
-#[tactic(auto, unfolding(crate::specs::Values::repeated))]
+#[tactic(auto, unfolding(crate::specs::FieldValues::repeated))]
 pub fn repeated_copies(
     alloc: Global,
     list: &[Field<'_>],
@@ -95,8 +95,12 @@ pub fn repeated_copies(
 
 /// The bytes of the singular message of the number: those of its occurrences one after another. None
 /// exactly where it doesn't occur.
-#[tactic(auto, unfolding(crate::specs::Values::joined, crate::specs::Values::repeated))]
-pub fn joined(alloc: Global, list: &[Field<'_>], number: u32) -> Result<Option<List<u8>>, Memory>
+#[tactic(auto, unfolding(crate::specs::FieldValues::joined, crate::specs::FieldValues::repeated))]
+pub fn join_occurrences(
+    alloc: Global,
+    list: &[Field<'_>],
+    number: u32,
+) -> Result<Option<List<u8>>, Memory>
     ensures bytes { IfOk result (λ b. b ≡ joined number (views list.now)) }
     ensures within { IfOk result (λ b. IfSome b (λ bytes. length bytes ≤ delimited_len (views list.now))) }
 {
@@ -130,7 +134,7 @@ fn as_text(at: u32, bytes: &[u8]) -> Result<&str, WireFault>
 
 /// The last text of the number, empty where there is none. `At` comes exactly where an occurrence isn't
 /// UTF-8, and is the place of the first of these.
-#[tactic(auto, unfolding(crate::specs::Values::last_text, crate::specs::Values::texts, crate::specs::Reading::gathered))]
+#[tactic(auto, unfolding(crate::specs::FieldValues::last_text, crate::specs::FieldValues::texts, crate::specs::Reading::gathered))]
 pub fn last_text(alloc: Global, list: &[Field<'_>], number: u32) -> Result<Text, WireFault>
     ensures { Gives (λ t. t) result (last_text number (views list.now)) }
 {
@@ -145,7 +149,7 @@ pub fn last_text(alloc: Global, list: &[Field<'_>], number: u32) -> Result<Text,
 
 /// All texts of the number. `At` comes exactly where an occurrence isn't UTF-8, and is the place of the
 /// first of these.
-#[tactic(auto, unfolding(crate::specs::Values::texts, crate::specs::Reading::gathered))]
+#[tactic(auto, unfolding(crate::specs::FieldValues::texts, crate::specs::Reading::gathered))]
 pub fn texts(alloc: Global, list: &[Field<'_>], number: u32) -> Result<List<Text>, WireFault>
     ensures { Gives (λ l. l) result (texts number (views list.now)) }
 {
@@ -161,7 +165,7 @@ pub fn texts(alloc: Global, list: &[Field<'_>], number: u32) -> Result<List<Text
 
 /// The number among these that occurs last, whatever the wire type of its field. None exactly where none
 /// occurs. It takes no memory.
-#[tactic(auto, unfolding(crate::specs::Values::oneof_of))]
+#[tactic(auto, unfolding(crate::specs::FieldValues::oneof_of))]
 pub fn oneof_of(list: &[Field<'_>], numbers: &[u32]) -> Option<u32>
     ensures { result ≡ oneof_of numbers.now (views list.now) }
 {
@@ -176,7 +180,7 @@ pub fn oneof_of(list: &[Field<'_>], numbers: &[u32]) -> Option<u32>
 
 /// The fields that are occurrences of the members of a oneof, by number and wire type. A oneof is read
 /// from these: `oneof_of` says which member is set, and `last_run` where its value stands.
-#[tactic(auto, unfolding(crate::specs::Values::occurrences))]
+#[tactic(auto, unfolding(crate::specs::FieldValues::occurrences))]
 pub fn occurrences<'a>(
     alloc: Global,
     list: &[Field<'a>],

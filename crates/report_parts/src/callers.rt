@@ -36,7 +36,7 @@ fn push_event(out: &mut String, event: &CallerEvent) -> Result<(), Memory>
 }
 
 /// The cluster that an answer leads to in a snapshot.
-fn cluster_in<'a>(snapshot: Option<&'a Snapshot>, answer: &RouteAnswer) -> Option<&'a Text>
+pub fn cluster_in<'a>(snapshot: Option<&'a Snapshot>, answer: &RouteAnswer) -> Option<&'a Text>
     ensures { option_copied result ≡ cluster_in (option_copied snapshot.entry) answer.now }
 {
     match &snapshot?.config.get().front {

@@ -10,7 +10,7 @@ pub mod request_report;
 pub mod snapshot_report;
 pub mod tree_report;
 
-pub use callers::push_caller_line;
+pub use callers::{cluster_in, push_caller_line};
 pub use driver::push_driver_line;
 pub use request_report::{push_pattern_line, push_request_line};
 pub use snapshot_report::push_snapshot_lines;

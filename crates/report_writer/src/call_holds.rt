@@ -7,7 +7,7 @@ ghost use Rattle.report_writer.specs.JournalReport.{held_in, holds_after, picked
 
 use call_journal::{CallerEvent, CallerReply, What};
 use cluster_tree::Snapshot;
-use route_match::{RouteAnswer, cluster_of};
+use report_parts::cluster_in;
 use std::alloc::Global;
 use std::collections::BTreeMap;
 use xc_base::{Call, CallId, Memory, Shared, Text};
@@ -16,16 +16,6 @@ use xc_base::{Call, CallId, Memory, Shared, Text};
 #[derive(Drop)]
 pub struct CallHolds {
     held: BTreeMap<u32, Text>,
-}
-
-/// The cluster that an answer leads to in a snapshot.
-fn cluster_in<'a>(snapshot: Option<&'a Snapshot>, answer: &RouteAnswer) -> Option<&'a Text>
-    ensures { option_copied result ≡ cluster_in (option_copied snapshot.entry) answer.now }
-{
-    match &snapshot?.config.get().front {
-        Ok(front) => cluster_of(front, answer),
-        Err(_) => None,
-    }
 }
 
 impl CallHolds {

@@ -45,7 +45,7 @@ fn snapshot_at(history: &History<Snapshot>, place: u32) -> Option<&Snapshot>
 }
 
 /// The snapshot of a number, from 1.
-fn numbered(history: &History<Snapshot>, number: u32) -> Option<&Snapshot>
+fn snapshot_numbered(history: &History<Snapshot>, number: u32) -> Option<&Snapshot>
     ensures { option_copied result ≡ numbered (values_of history.now.tickets) number }
 {
     if number == 0 {
@@ -60,5 +60,5 @@ pub fn named_in<'a>(history: &'a History<Snapshot>, what: &What) -> Option<&'a S
     ensures { option_copied result ≡ named_in (values_of history.now.tickets) what.now }
 {
     let number = number_in(what)?;
-    numbered(history, number)
+    snapshot_numbered(history, number)
 }

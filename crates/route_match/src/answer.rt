@@ -3,7 +3,7 @@ use xc_base::{Reason, Same};
 
 /// Where a call goes (gRFC A28). A `route` is the place of a route among all routes of its virtual host in the
 /// resource, from 0, and a `choice` a place in that route's list of weighted clusters, from 0.
-#[derive(Clone, Copy, Debug, PartialEq, Eq)]
+#[derive(Clone, Copy, PartialEq, Eq)]
 pub enum RouteAnswer {
     /// To a cluster of a route.
     To { route: u32, choice: u32 },

@@ -4,9 +4,7 @@ ghost use Rattle.session_generator.specs.Rounds.{call_lines, caller_lines, commi
 
 use std::alloc::Global;
 use xc_base::Memory;
-
-/// The odd number next to 2^64 by the golden ratio, by whose steps the words of calls are spread.
-const GOLDEN: u64 = 0x9E37_79B9_7F4A_7C15;
+use xc_base::draws::GOLDEN;
 
 /// The word of a call.
 fn word_of_call(call: u32) -> u64

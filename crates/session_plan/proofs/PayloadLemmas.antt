@@ -4,7 +4,7 @@ use Rattle.std.specs.Prelude.{◌&&◌, is_ok, is_some, unwrap_or}
 use Rattle.std.specs.List.{cons_option, last_or, list_all}
 use Rattle.std.specs.Result.{result_ok}
 use Rattle.proto_wire.specs.Reading.{◌>>=◌, gathered, optional}
-use Rattle.proto_wire.specs.Values.{as_text, bytes_at, delimited_len, is_text, last_bytes, last_text, payload_len, read_repeated, text_at, texts}
+use Rattle.proto_wire.specs.FieldValues.{as_text, bytes_at, delimited_len, is_text, last_bytes, last_text, payload_len, read_repeated, text_at, texts}
 use Rattle.proto_wire.specs.View.{view, views}
 use Rattle.proto_wire.specs.Wire.{WireField, fields}
 use Rattle.proto_wire.specs.declared.field.Field.{Field}

@@ -2,7 +2,7 @@
 use Rattle.std.specs.Prelude.{ℕ, ◌<◌, ◌^◌, List, length, Bool, ◌&&◌, is_ok, is_some}
 use Rattle.std.specs.Result.{result_ok}
 use Rattle.proto_wire.specs.Reading.{optional}
-use Rattle.proto_wire.specs.Values.{bytes_at, last_text, read_repeated, text_at}
+use Rattle.proto_wire.specs.FieldValues.{bytes_at, last_text, read_repeated, text_at}
 use Rattle.proto_wire.specs.Wire.{WireField}
 use Rattle.proto_discovery.specs.Any.{any_of}
 use Rattle.proto_discovery.specs.Response.{response_of}

@@ -1,7 +1,7 @@
 //! Whether a payload can be read as a response, which is told without building the response.
 ghost use Rattle.std.specs.Prelude.{◌≡◌, ◌&&◌, ◌<◌, ◌^◌, length, IfOk};
 ghost use Rattle.std.specs.List.{list_all};
-ghost use Rattle.proto_wire.specs.Values.{delimited_len, is_text, payload_len};
+ghost use Rattle.proto_wire.specs.FieldValues.{delimited_len, is_text, payload_len};
 ghost use Rattle.proto_wire.specs.View.{view, views};
 ghost use Rattle.session_plan.specs.ReadablePayloads.{are_resources, are_response_fields, are_texts, is_any, is_resource, is_response, is_text_in};
 

@@ -6,11 +6,11 @@ ghost use Rattle.session_lines.specs.declared.session.Act.TheVariants as does;
 ghost use Rattle.session_lines.specs.declared.session.Line.{Line as LineValue};
 ghost use Rattle.xds_history.specs.Responses.{refused_texts};
 ghost use Rattle.book_progress.specs.ActorCounts.{count_of};
-ghost use Rattle.book_progress.specs.EndedLines.{event_ends};
 ghost use Rattle.xds_book.specs.BookEntries.{IsPreparedFor};
 ghost use Rattle.session_player.specs.LineProgress.{IsCalling, IsPlayable};
 ghost use Rattle.session_player.specs.Stages.{HasDriven, driver_in, IsOfSession, Refuses, StandsAt, StandsAtEnd, StandsIn, texts_in};
 
+use crate::driver_events::{ends, shared_event};
 use crate::stage::Stage;
 use call_journal::{DriverEvent, ListedEvent, Plan};
 use header_match::Patterns;
@@ -28,30 +28,6 @@ pub(crate) struct Script<'a> {
     pub(crate) alloc: Global,
     pub(crate) session: &'a Session,
     pub(crate) plan: &'a Plan,
-}
-
-/// The event once more.
-fn shared_event(event: &DriverEvent) -> Result<DriverEvent, Memory>
-    ensures { IfOk result (λ copy. copy ≡ event.now) }
-{
-    match event {
-        DriverEvent::Opened(authority) => Ok(DriverEvent::Opened(*authority)),
-        DriverEvent::Response { authority, payload } => Ok(DriverEvent::Response {
-            authority: *authority,
-            payload: payload.share()?,
-        }),
-        DriverEvent::Bytes { authority, how } => Ok(DriverEvent::Bytes {
-            authority: *authority,
-            how: *how,
-        }),
-        DriverEvent::Lost(authority) => Ok(DriverEvent::Lost(*authority)),
-        DriverEvent::Moment(time) => Ok(DriverEvent::Moment(*time)),
-        DriverEvent::Endpoint { address, state } => Ok(DriverEvent::Endpoint {
-            address: address.clone()?,
-            state: *state,
-        }),
-        DriverEvent::Sweep => Ok(DriverEvent::Sweep),
-    }
 }
 
 /// A response, read and checked; None for any other event.
@@ -86,13 +62,6 @@ fn driver_event(event: &ListedEvent) -> Option<&DriverEvent>
         ListedEvent::Driver(event) => Some(event),
         ListedEvent::Start(_) | ListedEvent::Pick { .. } | ListedEvent::Commit(_) => None,
     }
-}
-
-/// Whether an event of the driver ends its line.
-fn ends(event: &DriverEvent) -> bool
-    ensures { result ≡ event_ends event.now }
-{
-    !matches!(event, DriverEvent::Response { .. })
 }
 
 impl Script<'_> {

@@ -4,6 +4,7 @@ ghost use Rattle.session_lines.specs.Before.{entries};
 ghost use Rattle.session_lines.specs.Lines.{lines_of};
 ghost use Rattle.session_lines.specs.Session.{Gives, head_of, lines_from, next_of, session_of};
 
+use call_journal::MOST_ENTRIES;
 use session_lines::cause::{Cause, SessionFault};
 use session_lines::lines::next_line;
 use session_lines::reader::{Reader, take_line};
@@ -12,9 +13,8 @@ use session_lines::session_head::{Head, boot, callers, header, target};
 use std::alloc::Global;
 use xc_base::List;
 
+/// The most bytes of a session: 64 MiB.
 const MOST_BYTES: usize = 67_108_864;
-
-const MOST_ENTRIES: usize = 1_048_576;
 
 /// The next line, and what stands after it.
 fn next(bytes: &[u8]) -> Result<(&[u8], &[u8]), SessionFault>
@@ -72,7 +72,7 @@ pub fn read_session(alloc: Global, bytes: &[u8]) -> Result<Session, SessionFault
     }
     let (head, rest) = head(alloc, bytes)?;
     let reader = lines(alloc, &head, rest)?;
-    if reader.entries() + 1 > MOST_ENTRIES {
+    if reader.entries() + 1 > MOST_ENTRIES as usize {
         return Err(SessionFault::at(0, Cause::Entries));
     }
     Ok(Session {

@@ -7,7 +7,7 @@ use Rattle.std.proofs.lemmas.Bool.Decides.{nat_tests}
 use Rattle.std.proofs.lemmas.Str.{IsUtf8-from_is_utf8}
 use Rattle.std.specs.Str.{IsUtf8, is_utf8}
 use Rattle.std.specs.Str.Lossy.{utf8_valid_len, valid_len_up_to}
-use Rattle.proto_wire.specs.Values.{is_text}
+use Rattle.proto_wire.specs.FieldValues.{is_text}
 use Rattle.text_law.proofs.Texts.{AreBytes}
 
 bytes_append : (x y : List ℕ) → AreBytes x → AreBytes y → AreBytes (x ++ y)

@@ -3,7 +3,7 @@ use Rattle.std.proofs.Common.{◌≡◌, ℕ, List, [], ◌∷◌, Bool, true, f
 use Rattle.std.specs.List.{cons_option, last_or}
 use Rattle.proto_wire.specs.Oneof.{read_member, if_set, ◌or◌}
 use Rattle.proto_wire.specs.Reading.{◌>>=◌, gathered, optional}
-use Rattle.proto_wire.specs.Values.{as_text, bytes_at, is_text, joined, last_run, last_text, read_repeated, read_singular, text_at, texts}
+use Rattle.proto_wire.specs.FieldValues.{as_text, bytes_at, is_text, joined, last_run, last_text, read_repeated, read_singular, text_at, texts}
 use Rattle.proto_wire.specs.Wire.{WireField, fields}
 use Rattle.proto_route.specs.StringMatcher.{regex_matcher_of, string_matcher_of}
 use Rattle.proto_route.specs.HeaderMatcher.{header_matcher_of, header_test}

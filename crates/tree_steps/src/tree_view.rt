@@ -6,7 +6,7 @@ use weighted_lb::Picker;
 use xc_base::{List, Same, Text};
 
 /// A child of a tree as it is seen (gRFC A56).
-#[derive(Debug, Drop)]
+#[derive(Drop)]
 pub struct NamedChild {
     /// The name of its leaf, which is that of the leaf's cluster.
     pub leaf: Text,
@@ -17,7 +17,7 @@ pub struct NamedChild {
 }
 
 /// What is seen of a cluster's trees.
-#[derive(Debug, Drop)]
+#[derive(Drop)]
 pub struct TreeView {
     /// The children of the serving tree.
     pub children: List<NamedChild>,

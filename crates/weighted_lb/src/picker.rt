@@ -5,7 +5,7 @@ use weight_pick::DropRule;
 use xc_base::{Address, List, Reason, Same};
 
 /// A READY locality of a priority.
-#[derive(Debug, Drop)]
+#[derive(Drop)]
 pub struct Part {
     /// Its place among the localities of its priority, from 0.
     pub locality: u32,
@@ -16,14 +16,14 @@ pub struct Part {
 }
 
 /// The picker of a priority: its drop rules, which come first, and what is behind them.
-#[derive(Debug, Drop)]
+#[derive(Drop)]
 pub struct Picker {
     pub drops: List<DropRule>,
     pub body: PickBody,
 }
 
 /// What is behind the drop rules.
-#[derive(Debug, Drop)]
+#[derive(Drop)]
 pub enum PickBody {
     /// The priority is READY: a locality is chosen by weight.
     Ready {

@@ -1,7 +1,8 @@
 //! The wire form.
 use proto_wire::{
-    Member, fields, joined, last_text, last_uint, occurrences, put_bytes, put_number, put_text,
-    put_uint, read_member, read_repeated, read_singular, repeated, repeated_copies, texts,
+    Member, fields, join_occurrences, last_text, last_uint, occurrences, put_bytes, put_number,
+    put_text, put_uint, read_member, read_repeated, read_singular, repeated, repeated_copies,
+    texts,
 };
 use std::test::Fail;
 use xc_base::List;
@@ -11,7 +12,7 @@ fn the_values_of_a_number_are_found(rt: HostRuntime) -> Result<(), Fail> {
     let list = fields(rt.alloc(), b"\x12\x01\x61\x08\x96\x01\x12\x01\x62")?;
     assert!(rt; last_uint(&list, 1) == 150);
     assert!(rt; last_text(rt.alloc(), &list, 2).is_ok());
-    assert!(rt; joined(rt.alloc(), &list, 2).is_ok());
+    assert!(rt; join_occurrences(rt.alloc(), &list, 2).is_ok());
     assert!(rt; repeated(rt.alloc(), &list, 2).is_ok());
     assert!(rt; repeated_copies(rt.alloc(), &list, 2).is_ok());
     assert!(rt; texts(rt.alloc(), &list, 2).is_ok());

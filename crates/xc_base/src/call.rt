@@ -4,7 +4,7 @@ use crate::names::CallId;
 use crate::text::Text;
 
 /// The client's node as the bootstrap describes it (gRFC A27). A text that the bootstrap lacks is empty.
-#[derive(Clone, Debug, Drop, PartialEq, Eq)]
+#[derive(Clone, Drop, PartialEq, Eq)]
 pub struct Node {
     /// The client's own name.
     pub id: Text,
@@ -17,14 +17,14 @@ pub struct Node {
 }
 
 /// A header field of a call. Names are compared without regard to the case of ASCII letters.
-#[derive(Clone, Debug, Drop, PartialEq, Eq)]
+#[derive(Clone, Drop, PartialEq, Eq)]
 pub struct Header {
     pub name: Text,
     pub value: Text,
 }
 
 /// A call that a client starts. All random choices that are made for it come from its word.
-#[derive(Clone, Debug, Drop, PartialEq, Eq)]
+#[derive(Clone, Drop, PartialEq, Eq)]
 pub struct Call {
     pub id: CallId,
     /// The path of its method, which begins with `/`.

@@ -4,7 +4,7 @@ ghost use Rattle.std.specs.Prelude.{◌≡◌};
 use crate::text::Text;
 
 /// The place of an authority in the bootstrap. 0 is the default one, which has no name (gRFC A47).
-#[derive(Clone, Copy, Debug, PartialEq, Eq, PartialOrd, Ord)]
+#[derive(Clone, Copy, PartialEq, Eq, PartialOrd, Ord)]
 pub struct Authority(pub u16);
 
 impl Authority {
@@ -13,7 +13,7 @@ impl Authority {
 }
 
 /// The four kinds of resources, in the order in which a stream asks for them.
-#[derive(Clone, Copy, Debug, PartialEq, Eq, PartialOrd, Ord)]
+#[derive(Clone, Copy, PartialEq, Eq, PartialOrd, Ord)]
 pub enum Kind {
     /// A Listener: where a target's routes are found (LDS).
     Listener,
@@ -26,7 +26,7 @@ pub enum Kind {
 }
 
 /// Why a resource name has no home (gRFC A47).
-#[derive(Clone, Copy, Debug, PartialEq, Eq, PartialOrd, Ord)]
+#[derive(Clone, Copy, PartialEq, Eq, PartialOrd, Ord)]
 pub enum NameFault {
     /// A `%` without two hexadecimal digits after it.
     BadEscape,
@@ -37,7 +37,7 @@ pub enum NameFault {
 }
 
 /// Whom a resource is asked of.
-#[derive(Clone, Copy, Debug, PartialEq, Eq, PartialOrd, Ord)]
+#[derive(Clone, Copy, PartialEq, Eq, PartialOrd, Ord)]
 pub enum Home {
     /// The management server of this authority.
     At(Authority),
@@ -47,7 +47,7 @@ pub enum Home {
 
 /// A resource's kind, its canonical name and its home. Keys are ordered by kind, then by the bytes of
 /// the name; the home follows from the two, and stands last.
-#[derive(Clone, Debug, Drop, PartialEq, Eq, PartialOrd, Ord)]
+#[derive(Clone, Drop, PartialEq, Eq, PartialOrd, Ord)]
 pub struct Key {
     pub kind: Kind,
     /// The canonical name, by which a server knows the resource.
@@ -56,15 +56,15 @@ pub struct Key {
 }
 
 /// A call's number, 0 to 65,535 in a session.
-#[derive(Clone, Copy, Debug, PartialEq, Eq, PartialOrd, Ord)]
+#[derive(Clone, Copy, PartialEq, Eq, PartialOrd, Ord)]
 pub struct CallId(pub u32);
 
 /// A moment, in milliseconds since the beginning of the session.
-#[derive(Clone, Copy, Debug, PartialEq, Eq, PartialOrd, Ord)]
+#[derive(Clone, Copy, PartialEq, Eq, PartialOrd, Ord)]
 pub struct Time(pub u64);
 
 /// The connectivity state of an endpoint, a locality, a priority or a tree.
-#[derive(Clone, Copy, Debug, PartialEq, Eq, PartialOrd, Ord)]
+#[derive(Clone, Copy, PartialEq, Eq, PartialOrd, Ord)]
 pub enum State {
     /// A connection is being made, or none was tried yet.
     Connecting,

@@ -6,7 +6,7 @@ ghost use Rattle.xc_base.specs.Causes.{HasCause};
 ghost use Rattle.xc_base.specs.Outside.{TakesSome};
 
 /// The outside failed.
-#[derive(Clone, Copy, Debug, PartialEq, Eq)]
+#[derive(Clone, Copy, PartialEq, Eq)]
 pub struct Failed;
 
 /// Where bytes come from.

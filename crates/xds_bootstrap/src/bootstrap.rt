@@ -10,7 +10,7 @@ pub(crate) const MOST: usize = 65_534;
 
 /// An authority (gRFC A47): its name, the address of the server that its resources are asked of, and
 /// the template that makes the names of its listeners.
-#[derive(Clone, Debug, Drop, PartialEq, Eq)]
+#[derive(Clone, Drop, PartialEq, Eq)]
 pub struct AuthorityEntry {
     pub name: Text,
     pub server_uri: Text,
@@ -19,7 +19,7 @@ pub struct AuthorityEntry {
 
 /// The authorities, and the client's node. In a bootstrap that was read, entry 0 is the default authority,
 /// whose name is empty, and the named ones stand after it in strictly rising order of their bytes.
-#[derive(Clone, Debug, Drop, PartialEq, Eq)]
+#[derive(Clone, Drop, PartialEq, Eq)]
 pub struct Bootstrap {
     pub authorities: List<AuthorityEntry>,
     pub node: Node,

@@ -8,7 +8,7 @@ use xc_base::{List, Memory, Reason, Same, Shared, Text};
 
 /// The routes of a channel: the name of its listener, a route configuration, and the place of the
 /// channel's virtual host in that configuration, from 0.
-#[derive(Debug, Drop, PartialEq, Eq)]
+#[derive(Drop, PartialEq, Eq)]
 pub struct Front {
     pub listener: Text,
     pub routes: Shared<RouteValue>,
@@ -16,7 +16,7 @@ pub struct Front {
 }
 
 /// A cluster that isn't an aggregate, with its endpoints or the reason why it has none.
-#[derive(Debug, Drop, PartialEq, Eq)]
+#[derive(Drop, PartialEq, Eq)]
 pub struct Leaf {
     pub name: Text,
     pub state: Result<Shared<EndpointValue>, Reason>,
@@ -24,14 +24,14 @@ pub struct Leaf {
 
 /// What a cluster stands for: itself, or, where it is an aggregate, the leaves below it, the preferred
 /// ones first (gRFC A37).
-#[derive(Debug, Drop, PartialEq, Eq)]
+#[derive(Drop, PartialEq, Eq)]
 pub struct Leaves {
     pub aggregate: bool,
     pub leaves: List<Leaf>,
 }
 
 /// A cluster that calls may be sent to, or the reason why they fail.
-#[derive(Debug, Drop, PartialEq, Eq)]
+#[derive(Drop, PartialEq, Eq)]
 pub struct ClusterEntry {
     pub name: Text,
     pub state: Result<Shared<Leaves>, Reason>,
@@ -39,7 +39,7 @@ pub struct ClusterEntry {
 
 /// A whole configuration: the front, or the reason why calls have no routes, and the clusters in the
 /// order of their names' bytes.
-#[derive(Debug, Drop, PartialEq, Eq)]
+#[derive(Drop, PartialEq, Eq)]
 pub struct Config {
     pub front: Result<Front, Reason>,
     pub clusters: List<Shared<ClusterEntry>>,

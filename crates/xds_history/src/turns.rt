@@ -1,7 +1,7 @@
 //! What events do to streams.
 
 /// What an event does to the stream of an authority.
-#[derive(Clone, Copy, Debug, PartialEq, Eq)]
+#[derive(Clone, Copy, PartialEq, Eq)]
 pub enum Turn {
     /// It opens one.
     Opens,

@@ -13,14 +13,14 @@ use xds_bootstrap::Bootstrap;
 
 /// The key of the listener that a target names, and the channel's host, by which a virtual host is
 /// chosen.
-#[derive(Clone, Debug, Drop, PartialEq, Eq)]
+#[derive(Clone, Drop, PartialEq, Eq)]
 pub struct Target {
     pub key: Key,
     pub host: Text,
 }
 
 /// Why a target names no listener.
-#[derive(Clone, Copy, Debug, PartialEq, Eq)]
+#[derive(Clone, Copy, PartialEq, Eq)]
 pub enum TargetFault {
     /// It has none of the forms `xds:name`, `xds:///name` and `xds://authority/name`.
     BadTarget,

@@ -17,7 +17,7 @@ use std::rt::Env;
 use std::sync::Wait;
 use std::{env, io};
 
-// Why there are no words: one of them isn't text, or there was no memory.
+/// Why there are no words: one of them isn't text, or there was no memory.
 fn unread(fault: &io::Error) -> Status {
     match fault.kind() {
         io::ErrorKind::OutOfMemory => Status::Memory,
@@ -25,13 +25,14 @@ fn unread(fault: &io::Error) -> Status {
     }
 }
 
+/// The words behind the program's name.
 fn words<R: Env + AllocGlobal>(rt: &R) -> Result<Vec<String>, Status> {
     let mut args = env::args(rt).map_err(|fault| unread(&fault))?;
     let _program = args.next();
     args.collect(rt.alloc()).map_err(|_| Status::Memory)
 }
 
-// Tells on standard error why the command didn't do its work.
+/// Tells on standard error why the command didn't do its work.
 fn tell<R: Eprint>(rt: &R, status: Status) {
     let _ = match status {
         Status::Done => Ok(()),
@@ -45,7 +46,7 @@ fn tell<R: Eprint>(rt: &R, status: Status) {
     };
 }
 
-// Runs the command over an input and an output, and hands on what the output still has to take.
+/// Runs the command over an input and an output, and hands on what the output still has to take.
 fn run_over<R: Wait + Sync, I: Read + Drop, O: Write + Drop>(
     rt: &R,
     alloc: Global,
@@ -61,7 +62,7 @@ fn run_over<R: Wait + Sync, I: Read + Drop, O: Write + Drop>(
     Ok(status)
 }
 
-// The status with which a run ended early or late.
+/// The status with which a run ended early or late.
 fn either(ended: Result<Status, Status>) -> Status {
     match ended {
         Ok(status) => status,

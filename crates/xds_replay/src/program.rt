@@ -20,7 +20,7 @@ ghost use Rattle.xds_replay.specs.Outcomes.{IsBegun, IsDone, IsWritten, WritesNo
 
 use crate::session_input::{generated_input, session_in};
 use header_match::Patterns;
-use program_status::{Command, Status, command_of, read_status, status_of, written};
+use program_status::{Command, Status, command_of, read_status, status_of, write_status};
 use report_law::{one_report, one_totals};
 use report_writer::write_report;
 use session_generator::write_session;
@@ -46,7 +46,7 @@ fn report<K: Sink>(alloc: Global, session: &Session, played: &Played, sink: &mut
     ensures cause { result ≡ Status.WriteFault → Rose (K.faults sink.old) (K.faults sink.new) }
 {
     one_report();
-    written(write_report(alloc, &session.boot, &played.journal, &played.history, sink))
+    write_status(write_report(alloc, &session.boot, &played.journal, &played.history, sink))
 }
 
 /// Writes the totals of what was played of a session of so many rounds.
@@ -68,7 +68,7 @@ fn total<K: Sink>(
 {
     let _session = session;
     one_totals();
-    written(write_totals(alloc, rounds, &played.journal, &played.history, sink))
+    write_status(write_totals(alloc, rounds, &played.journal, &played.history, sink))
 }
 
 /// Reads a session from the source, plays it, and writes its report to the sink.
@@ -116,7 +116,7 @@ fn generate<K: Sink>(alloc: Global, rounds: u32, sink: &mut K) -> Status
     ensures begun { (result ≡ Status.WriteFault) ⊎ (result ≡ Status.Memory) → IsBegun (Asked.Gen rounds) None (K.held sink.old) (K.held sink.new) [] [] }
     ensures write { result ≡ Status.WriteFault → Rose (K.faults sink.old) (K.faults sink.new) }
 {
-    written(write_session(alloc, rounds, sink))
+    write_status(write_session(alloc, rounds, sink))
 }
 
 /// Plays the generated session of so many rounds, and writes its totals.

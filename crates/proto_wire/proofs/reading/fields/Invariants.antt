@@ -1,5 +1,5 @@
 use Rattle.std.proofs.Common.{◌≡◌, ◌≤◌, ◌+◌, ◌-◌, length, vec_len}
-use Rattle.proto_wire.specs.Values.{delimited_len}
+use Rattle.proto_wire.specs.FieldValues.{delimited_len}
 use Rattle.proto_wire.specs.View.{views}
 use Rattle.proto_wire.specs.Wire.{with_prefix, fields_within, fields}
 use Rattle.proto_wire.proofs.reading.fields.Given as goal

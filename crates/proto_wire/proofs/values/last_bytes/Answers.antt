@@ -1,5 +1,5 @@
 use Rattle.std.proofs.Common.{[]}
-use Rattle.proto_wire.specs.Values.{repeated, last_bytes}
+use Rattle.proto_wire.specs.FieldValues.{repeated, last_bytes}
 use Rattle.proto_wire.specs.View.{views}
 use Rattle.proto_wire.proofs.Runs.{last_or-default}
 use Rattle.proto_wire.proofs.values.last_bytes.Goals as goal

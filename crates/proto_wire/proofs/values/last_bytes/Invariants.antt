@@ -1,7 +1,7 @@
 use Rattle.std.proofs.Common.{◌≡◌, Some, drop, []}
 use Rattle.std.specs.List.{last_or}
 use Rattle.std.specs.Prelude.{unwrap_or}
-use Rattle.proto_wire.specs.Values.{repeated, last_bytes}
+use Rattle.proto_wire.specs.FieldValues.{repeated, last_bytes}
 use Rattle.proto_wire.specs.View.{views}
 use Rattle.proto_wire.proofs.values.last_bytes.Given as goal
 

@@ -1,6 +1,6 @@
 use Rattle.std.proofs.Common.{[]}
 use Rattle.std.proofs.lemmas.Str.{IsUtf8-nil}
-use Rattle.proto_wire.specs.Values.{texts, last_text}
+use Rattle.proto_wire.specs.FieldValues.{texts, last_text}
 use Rattle.proto_wire.specs.View.{views}
 use Rattle.proto_wire.proofs.Runs.{last_or-default_read}
 use Rattle.proto_wire.proofs.values.last_text.Goals as goal

@@ -3,7 +3,7 @@ use Rattle.std.specs.Prelude.{unwrap_or}
 use Rattle.std.specs.List.{last_or}
 use Rattle.std.specs.Str.{IsUtf8}
 use Rattle.proto_wire.specs.Reading.{◌>>=◌}
-use Rattle.proto_wire.specs.Values.{texts, last_text}
+use Rattle.proto_wire.specs.FieldValues.{texts, last_text}
 use Rattle.proto_wire.specs.View.{views}
 use Rattle.proto_wire.proofs.values.last_text.Given as goal
 

@@ -1,6 +1,6 @@
 use Rattle.std.proofs.Common.{◌≡◌, None, drop}
 use Rattle.std.specs.List.{filter_map, last_or}
-use Rattle.proto_wire.specs.Values.{uint_at}
+use Rattle.proto_wire.specs.FieldValues.{uint_at}
 use Rattle.proto_wire.specs.View.{views}
 use Rattle.proto_wire.proofs.values.last_uint.Given as goal
 

@@ -1,5 +1,5 @@
 use Rattle.std.proofs.Common.{◌≡◌, ◌++◌, drop}
-use Rattle.proto_wire.specs.Values.{occurrences}
+use Rattle.proto_wire.specs.FieldValues.{occurrences}
 use Rattle.proto_wire.specs.View.{views}
 use Rattle.proto_wire.proofs.values.occurrences.Given as goal
 

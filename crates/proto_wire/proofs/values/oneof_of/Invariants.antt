@@ -1,6 +1,6 @@
 use Rattle.std.proofs.Common.{◌≡◌, None, drop}
 use Rattle.std.specs.List.{filter_map, last_or}
-use Rattle.proto_wire.specs.Values.{among}
+use Rattle.proto_wire.specs.FieldValues.{among}
 use Rattle.proto_wire.specs.View.{views}
 use Rattle.proto_wire.proofs.values.oneof_of.Given as goal
 

@@ -1,5 +1,5 @@
 use Rattle.std.proofs.Common.{◌≡◌, ◌++◌, drop, map}
-use Rattle.proto_wire.specs.Values.{repeated}
+use Rattle.proto_wire.specs.FieldValues.{repeated}
 use Rattle.proto_wire.specs.View.{now, views}
 use Rattle.proto_wire.proofs.values.repeated.Given as goal
 

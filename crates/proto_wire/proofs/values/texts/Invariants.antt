@@ -1,5 +1,5 @@
 use Rattle.std.proofs.Common.{◌≡◌, drop}
-use Rattle.proto_wire.specs.Values.{texts}
+use Rattle.proto_wire.specs.FieldValues.{texts}
 use Rattle.proto_wire.specs.View.{views}
 use Rattle.proto_wire.proofs.Runs.{gathered_after}
 use Rattle.proto_wire.proofs.values.texts.Given as goal

@@ -3,7 +3,7 @@ use Rattle.config_assembly.specs.Reach.{reach}
 use Rattle.config_assembly.specs.ReachedResources.{Resources, resources}
 use Rattle.config_assembly.specs.Watching.{IsKept, IsWatching}
 use Rattle.dep_manager.specs.KeptAssemblies.{IsAssembledOf, IsRightBy}
-use Rattle.dep_manager.specs.Outcomes.{IsOutcomeBy, outcome_of}
+use Rattle.dep_manager.specs.UpdateOutcomes.{IsOutcomeBy, outcome_of}
 use Rattle.dep_manager.proofs.KeptLemmas.{kept_by, outcome_by}
 use Rattle.dep_manager.proofs.deps.Deps.begin.Goals as goal
 

@@ -4,12 +4,12 @@ use Rattle.config_assembly.specs.ReachedResources.{Resources, resources}
 use Rattle.config_assembly.specs.Watching.{IsWatching}
 use Rattle.dep_manager.specs.EndpointNews.{are_endpoints}
 use Rattle.dep_manager.specs.KeptAssemblies.{AreChanges, IsKeptOf, IsRightBy}
-use Rattle.dep_manager.specs.Outcomes.{IsOutcomeBy, outcome_of}
+use Rattle.dep_manager.specs.UpdateOutcomes.{IsOutcomeBy, outcome_of}
 use Rattle.dep_manager.proofs.KeptLemmas.{outcome_by, watching_still}
 use Rattle.dep_manager.proofs.deps.Deps.follow.Goals as goal
 
-pub renewed-requires : goal.renewed-requires
-renewed-requires g c = ap are_endpoints c.as_slice.ensures ∙ c.requires
+pub renew-requires : goal.renew-requires
+renew-requires g c = ap are_endpoints c.as_slice.ensures ∙ c.requires
 
 pub returns-clause-outcome : goal.returns-clause-outcome
 returns-clause-outcome g c entries known is changes =

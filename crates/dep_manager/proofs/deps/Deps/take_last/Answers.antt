@@ -10,7 +10,7 @@ returns-clause-rest c =
     ap₂ with c.self.view_is c.take.ensures.after
 
 pub returns-clause-kept : goal.returns-clause-kept
-returns-clause-kept c = was_last c.following.result c.take.result c.args.self.now.last (c.take.ensures.value ∙ ap (λ d. d.last) c.self.view_is) c.following.ensures.kept
+returns-clause-kept c = was_last c.last_to_follow.result c.take.result c.args.self.now.last (c.take.ensures.value ∙ ap (λ d. d.last) c.self.view_is) c.last_to_follow.ensures.kept
 
 pub returns-clause-some : goal.returns-clause-some
-returns-clause-some c kept is same endpoints = c.following.ensures.some kept (c.take.ensures.value ∙ ap (λ d. d.last) c.self.view_is ∙ is) same endpoints
+returns-clause-some c kept is same endpoints = c.last_to_follow.ensures.some kept (c.take.ensures.value ∙ ap (λ d. d.last) c.self.view_is ∙ is) same endpoints

@@ -3,7 +3,7 @@ use Rattle.config_assembly.specs.Reach.{reach}
 use Rattle.config_assembly.specs.ReachedResources.{resources}
 use Rattle.config_assembly.specs.Watching.{IsKept}
 use Rattle.dep_manager.specs.EndpointNews.{are_endpoints}
-use Rattle.dep_manager.specs.Outcomes.{IsOutcomeBy}
+use Rattle.dep_manager.specs.UpdateOutcomes.{IsOutcomeBy}
 use Rattle.dep_manager.proofs.KeptLemmas.{kept_at, none_counted}
 use Rattle.dep_manager.proofs.deps.Deps.update.Goals as goal
 

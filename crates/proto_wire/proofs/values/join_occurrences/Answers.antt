@@ -1,8 +1,8 @@
-use Rattle.proto_wire.specs.Values.{repeated, joined}
+use Rattle.proto_wire.specs.FieldValues.{repeated, joined}
 use Rattle.proto_wire.specs.View.{views}
 use Rattle.proto_wire.proofs.LenLemmas.{joined-within}
 use Rattle.proto_wire.proofs.Runs.{joined_after-none, joined_after-end}
-use Rattle.proto_wire.proofs.values.joined.Goals as goal
+use Rattle.proto_wire.proofs.values.join_occurrences.Goals as goal
 
 pub loop-field-init : goal.loop-field-init
 unfolding joined

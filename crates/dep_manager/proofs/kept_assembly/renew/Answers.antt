@@ -1,7 +1,7 @@
 use Rattle.std.proofs.Common.{refl, ap, ◌∙◌}
 use Rattle.dep_manager.specs.RenewedConfigs.{renewed_config}
 use Rattle.dep_manager.proofs.RenewLemmas.{renewed_by}
-use Rattle.dep_manager.proofs.kept_assembly.renewed.Goals as goal
+use Rattle.dep_manager.proofs.kept_assembly.renew.Goals as goal
 
 pub returns-clause-kept : goal.returns-clause-kept
 returns-clause-kept g c entries known target reached listener is changes =
