@@ -1,4 +1,5 @@
-# Plays each session of examples/: the report is byte for byte the one that stands beside it.
+# Plays each session of examples/, gated into the order of its lines (tests/gating.py): the report is byte for byte the one
+# that stands beside it.
 set -eu
 cd "$(dirname "$0")/.."
 program=$(bash tools/built.sh)
@@ -6,6 +7,6 @@ program=$(bash tools/built.sh)
 
 for session in examples/*.session; do
   name=${session%.session}
-  ran "$name" 0 "$name.expected" /dev/null run <"$session"
+  ran "$name" 0 "$name.expected" /dev/null run < <(python3 tests/gating.py <"$session")
 done
 told play_examples

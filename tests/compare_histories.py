@@ -7,6 +7,9 @@ most MOST lines (60 if none is given), those from number FIRST on, the first LON
 that have more lines, up to 300, each eighth number once more with some damage, and the worked sessions beside the
 reference, are played by both. Each report is the same byte for byte, or the first fault and its line are. A worked session
 with a report of its own is compared with that report too. Up to four processes make and play the sessions.
+
+Recorded reports, and those of the reference, are made in the order of the session's lines. So PROGRAM is given the session
+gated into that order (tests/gating.py), where it isn't one that is refused.
 """
 
 import itertools
@@ -21,10 +24,12 @@ HERE = pathlib.Path(__file__).resolve().parent
 sys.path[:0] = [str(HERE), str(HERE.parent / "tools")]
 import corpus  # noqa: E402
 import mutation  # noqa: E402
+from gating import gated  # noqa: E402
 from reference import Reference  # noqa: E402
 
 COUNT, FIRST, MOST, LONG = 10_000, 1, 60, 300
 MOST_OF_LONG, EACH_DAMAGED, BATCH = 300, 8, 400
+FAULT = "session line"
 
 
 def chosen(numbered, left, most):
@@ -60,6 +65,11 @@ def told(program, text):
     return f"status {ran.returncode}, with {len(ran.stdout)} bytes of a report, and {said}"
 
 
+def played_in_order(program, text, wanted):
+    """What the program writes of a session for which this report, made in the order of its lines, or this fault is wanted."""
+    return told(program, text if wanted.startswith(FAULT) else gated(text))
+
+
 def first_difference(got, wanted):
     """The first line in which two texts differ."""
     for line, (one, other) in enumerate(zip(got.splitlines() + [""], wanted.splitlines() + [""]), 1):
@@ -86,7 +96,7 @@ class Comparison:
 def compare_recorded(program, comparison):
     """The sessions of the corpus."""
     for row in corpus.read("histories"):
-        comparison.compare(row["name"], told(program, row["session"]), row["report"])
+        comparison.compare(row["name"], played_in_order(program, row["session"], row["report"]), row["report"])
     print(f"{comparison.equal + comparison.bad} recorded sessions")
 
 
@@ -105,7 +115,8 @@ class Players:
     @staticmethod
     def played(named):
         name, text = named
-        return name, told(Players.program, text), Players.reference.report_of(text)
+        wanted = Players.reference.report_of(text)
+        return name, played_in_order(Players.program, text, wanted), wanted
 
     def random_plays(self, count, first, most, long):
         """Random sessions, each with its name and its two reports."""
@@ -120,14 +131,15 @@ def compare_with(folder, program, choice, comparison):
     reference = Reference(folder)
     before = comparison.equal + comparison.bad
     for name, text, own in reference.worked_sessions():
-        got = told(program, text)
-        comparison.compare(name, got, reference.report_of(text))
-        if own is not None and not got.startswith("session line"):
+        wanted = reference.report_of(text)
+        got = played_in_order(program, text, wanted)
+        comparison.compare(name, got, wanted)
+        if own is not None and not got.startswith(FAULT):
             comparison.compare(f"{name}.expected", got, own)
     worked, entries, faults = comparison.equal + comparison.bad - before, 0, 0
     for name, got, wanted in Players(program, reference).random_plays(*choice):
         entries += wanted.count("\n")
-        faults += wanted.startswith("session line")
+        faults += wanted.startswith(FAULT)
         comparison.compare(name, got, wanted)
     randoms = comparison.equal + comparison.bad - before - worked
     print(f"{worked} comparisons of worked sessions, {randoms} random sessions with {entries} lines of reports, {faults} faults")

@@ -1,8 +1,8 @@
 """tests/piece_by_piece.py PROGRAM: hands sessions to a program one byte at a time, and takes its report so too.
 
 The session comes by a pipe in packet mode (`O_DIRECT`, see pipe(2)): each byte is written alone, and each read of the program
-gets one byte, however many it asks for. All examples are played so. The reports are byte for byte those of examples/, and a
-session that is refused has its message and no report.
+gets one byte, however many it asks for. All examples are played so, gated into the order of their lines. The reports are byte
+for byte those of examples/, and a session that is refused has its message and no report.
 """
 
 import os
@@ -10,6 +10,8 @@ import pathlib
 import subprocess
 import sys
 import threading
+
+from gating import gated
 
 EXAMPLES = pathlib.Path(__file__).resolve().parent.parent / "examples"
 REFUSED = [("cut in its last line", b"d swee", b"xds_replay: session line 5: word\n"),
@@ -48,7 +50,7 @@ def played(program, data):
 def cases():
     """Each session by its name, with the status, the report and the message that are wanted."""
     for path in sorted(EXAMPLES.glob("*.session")):
-        yield path.stem, path.read_bytes(), (0, path.with_suffix(".expected").read_bytes(), b"")
+        yield path.stem, gated(path.read_bytes()), (0, path.with_suffix(".expected").read_bytes(), b"")
     for name, last, message in REFUSED:
         yield f"a session {name}", (EXAMPLES / "no_events.session").read_bytes() + last, (3, b"", message)
 
