@@ -12,10 +12,11 @@ Inputs are made of those in tests/corpus/ and examples/ by tools/mutation.py. Ki
     resource    1,000 damaged resources a run, which probe_resource accepts or refuses, and the reference in responses
 
 Two runs agree where both write the same report, or both refuse the session for the same line and cause; with the program
-probe_session, which reads sessions and plays none, where both refuse it for them, or none does. Versions of `regex`
-don't refuse the same patterns; inputs in which the two refuse other ones are counted apart (`other patterns`). Without a
-reference program each run is to write a report that ends, or to refuse the session; each resource is judged. (The
-reference is called as xds_replay is; tools/reference.py knows where it is.)
+probe_session, which reads sessions and plays none, where both refuse it for them, or none does. The reference plays a session
+in the order of its lines, so the program is given it with gates that leave this order (tests/gating.py), unless it is refused.
+Versions of `regex` don't refuse the same patterns; inputs in which the two refuse other ones are counted apart
+(`other patterns`). Without a reference program each run is to write a report that ends, or to refuse the session; each
+resource is judged. (The reference is called as xds_replay is; tools/reference.py knows where it is.)
 
 The inputs of a seed are the same at each run. It stops at the first difference, whose session is made shorter and kept in
 --keep (fuzz_found.session), with status 1; else after --count inputs or --seconds, with status 0. The last line says how
@@ -39,6 +40,7 @@ import mutation  # noqa: E402
 import player  # noqa: E402
 import reference as adapter  # noqa: E402
 import wire  # noqa: E402
+from gating import gated  # noqa: E402
 
 BATCH, TRIES = 1_000, 200
 OTHER_PATTERNS = "other patterns"
@@ -168,16 +170,23 @@ class Comparison:
     def __init__(self, program, reference):
         self.program, self.reference, self.ends = program, reference, collections.Counter()
 
+    def given(self, text):
+        """The session as the program is given it, and how the reference plays it: its end, or None without one, and its report."""
+        if self.reference is None:
+            return text, None, b""
+        wanted, report = self.reference.play(text)
+        return gated(text) if wanted == "done" else text, wanted, report
+
     def difference(self, text):
         """What is wrong with how the program plays a session, or None; and how it ended."""
+        text, wanted, report = self.given(text)
         end, out = self.program.play(text)
         if end != "done" and not end.startswith("session line"):
             return f"the program: {end}", end
         if end == "done" and not self.program.is_reader and not out.split(b"\n")[-2:-1][0].startswith(b"end "):
             return "the report has no end", end
-        if self.reference is None:
+        if wanted is None:
             return None, end
-        wanted, report = self.reference.play(text)
         if end != wanted:
             return f"the program: {end}; the reference: {wanted}", end
         if out == report or self.program.is_reader:
@@ -187,7 +196,6 @@ class Comparison:
         return first_difference(out, report), end
 
     def session(self, text):
-        text = player.in_file_order(text)
         wrong, end = self.difference(text)
         self.ends[end if end == OTHER_PATTERNS else end.rpartition(" ")[2]] += 1
         return wrong, text
@@ -309,7 +317,7 @@ def main():
     wrong, text, count = find(given, comparison)
     if wrong:
         if given.kind != "resource":
-            text = player.in_file_order(shorter(text, lambda it: comparison.difference(player.in_file_order(it))[0]))
+            text = comparison.given(shorter(text, lambda it: comparison.difference(it)[0]))[0]
         pathlib.Path(given.keep).write_bytes(text)
         print(f"{wrong}\nkept: {given.keep}")
     ends = ", ".join(f"{end} {times:,}" for end, times in comparison.ends.most_common())

@@ -55,21 +55,3 @@ def built(name):
     """A program of this repository, which is built without proof where no newer one is there."""
     ran = subprocess.run(["bash", HOME / "tools/built.sh", "--unproved", name], stdout=subprocess.PIPE, check=True, text=True)
     return Player(ran.stdout.strip(), name == READER)
-
-
-def in_file_order(text):
-    """The session with a gate at each line from line 6 on that waits for the line before, in place of its own. So the one
-    legal order of the lines is that of the file, on however many threads it is played. A line that begins with a
-    gate which no earlier line meets is left as it is."""
-    lines = text.split(b"\n")
-    for place in range(5, len(lines)):
-        line = lines[place]
-        if not line:
-            continue
-        word, _, rest = line.partition(b" ")
-        gate = re.fullmatch(rb"@(0|[1-9]\d{0,5})", word)
-        if gate and 5 <= int(gate[1]) <= place:
-            lines[place] = b"@%d %s" % (place, rest)
-        elif not word.startswith(b"@"):
-            lines[place] = b"@%d %s" % (place, line)
-    return b"\n".join(lines)

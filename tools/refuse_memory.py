@@ -19,9 +19,10 @@ What is wanted, where the full report is what the session gives without a fault:
     interrupt          the full report: a read or write that was broken off is made again
     short, thread      the full report
 
-Each line of a session waits for the line before, so that there is one report, also with callers on threads. For each
-session and kind it prints how many requests there were, and how many runs ended in which way. The status is 1 where a
-run ended otherwise. The program is xds_replay where none is named; it is built without proof where it has to be.
+Each line of a session waits for the line before (tests/gating.py), so that there is one report, also with callers on
+threads. For each session and kind it prints how many requests there were, and how many runs ended in which way. The
+status is 1 where a run ended otherwise. The program is xds_replay where none is named; it is built without proof where
+it has to be.
 """
 
 import argparse
@@ -30,9 +31,11 @@ import pathlib
 import sys
 import tempfile
 
-sys.path.insert(0, str(pathlib.Path(__file__).resolve().parent))
+HERE = pathlib.Path(__file__).resolve().parent
+sys.path[:0] = [str(HERE), str(HERE.parent / "tests")]
 import player  # noqa: E402
 import tracing  # noqa: E402
+from gating import gated  # noqa: E402
 
 SESSIONS = ["first_path", "route_moves_under_a_pin", "priority_failover", "federated_channel"]
 
@@ -118,7 +121,7 @@ def main():
     program, is_bad = player.built(given.program), False
     for name in given.session or SESSIONS:
         with tempfile.NamedTemporaryFile() as file:
-            file.write(player.in_file_order(file_of(name).read_bytes()))
+            file.write(gated(file_of(name).read_bytes()))
             file.flush()
             for kind in given.kind:
                 count, ends, bad = Sweep(program, file.name, given).sweep(kind)
