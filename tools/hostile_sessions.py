@@ -4,16 +4,19 @@
     hostile_sessions.py            the names, with what each has
     hostile_sessions.py NAME       writes that session
 
-Each case has a name, a sentence, a bound for the program's peak memory in MiB, whether its report is one text (where
-callers are on threads, only its last line is), and the stack in which it is played.
+Each case has a name, a sentence, a bound for the program's peak memory in MiB, whether its report is one text, and the
+stack in which it is played. A session whose report is one text is written with gates that leave the order of its lines
+(tests/gating.py); of any other one only the report's last line is the same on threads.
 """
 
 import dataclasses
 import pathlib
 import sys
 
-sys.path.insert(0, str(pathlib.Path(__file__).resolve().parent))
+HERE = pathlib.Path(__file__).resolve().parent
+sys.path[:0] = [str(HERE), str(HERE.parent / "tests")]
 import wire  # noqa: E402
+from gating import gated  # noqa: E402
 
 SERVER = '"xds_servers":[{"server_uri":"ms:1"}],"node":{"id":"n"}'
 MOST_BYTES, MOST_LINES, MOST_DRIVER, MOST_CALLS = 67_108_864, 200_000, 20_000, 65_536
@@ -340,6 +343,10 @@ class Case:
     def name(self):
         return self.make.__name__
 
+    def text(self):
+        """The session as it is played."""
+        return gated(self.make()) if self.is_one_text else self.make()
+
 
 CASES = [
     Case(lines, "200,000 lines: 65,536 calls by sixteen callers, each started, picked and committed", 512, False),
@@ -370,7 +377,7 @@ CASES = [
 def main():
     cases = {case.name: case for case in CASES}
     if len(sys.argv) == 2 and sys.argv[1] in cases:
-        sys.stdout.buffer.write(cases[sys.argv[1]].make())
+        sys.stdout.buffer.write(cases[sys.argv[1]].text())
         return 0
     print(__doc__)
     for case in CASES:

@@ -2,12 +2,17 @@
 
 The kinds are the functions of KINDS, each of which makes the lines of a session. In most of them the client gets one
 listener with its routes, the clusters that they lead to, and one endpoint for each of these, before the lines that count.
+The lines have gates by which they are played in their order (tests/gating.py), so that no call starts before that.
 """
 
 import itertools
+import pathlib
 import sys
 
-import wire
+HERE = pathlib.Path(__file__).resolve().parent
+sys.path[:0] = [str(HERE), str(HERE.parent / "tests")]
+import wire  # noqa: E402
+from gating import gated  # noqa: E402
 
 HEAD = ["xds-session 1", 'boot {"xds_servers":[{"server_uri":"ms:1"}],"node":{"id":"n"}}', "target xds:///svc", "callers 1"]
 MANY = 1_024
@@ -168,8 +173,8 @@ KINDS = {one.__name__: one for one in (
 
 
 def text(lines):
-    """The text of a session's lines."""
-    return "".join(line + "\n" for line in lines)
+    """The text of a session's lines, with gates that leave their order."""
+    return gated("".join(line + "\n" for line in lines).encode()).decode()
 
 
 if __name__ == "__main__":
