@@ -19,8 +19,9 @@ import tempfile
 import plot
 import timing
 
-sys.path.insert(0, str(timing.HOME / "tools"))
+sys.path[:0] = [str(timing.HOME / "tools"), str(timing.HOME / "tests")]
 import large_sessions  # noqa: E402
+from gating import gated  # noqa: E402
 
 # The kinds, with their words, what their size counts, and the largest one.
 KINDS = {
@@ -50,9 +51,11 @@ class Run:
             self.best[program] = tuple(map(min, best, timing.alone(program, self.words, self.input)))
 
     def written(self, program):
-        """A sum of what a program writes."""
+        """A sum of what a program writes where gates leave one order of the lines."""
         total = hashlib.sha256()
-        with open(self.input, "rb") as given:
+        with tempfile.TemporaryFile() as given:
+            given.write(gated(self.input.read_bytes()))
+            given.seek(0)
             run = subprocess.Popen([program, *self.words], stdin=given, stdout=subprocess.PIPE)
             for piece in iter(lambda: run.stdout.read(1 << 20), b""):
                 total.update(piece)
