@@ -3,9 +3,10 @@
     python3 tools/reference.py              prints the folder of the reference
     python3 tools/reference.py --program    prints the reference program that is called as xds_replay is, and quick
 
-The folder has a reader of sessions, a check of resources, a client that plays sessions, and random sessions; beside it stand
-worked sessions. XDS_REFERENCE names another folder than the one beside this repository, and XDS_YARDSTICK another program.
-Where there is none, it says where it looked, on standard error with status 1.
+The folder has a reader of sessions, a check of resources, a client that plays sessions, a judge of reports whose actors
+act in any order, and random sessions; beside it stand worked sessions. XDS_REFERENCE names another folder than the one
+beside this repository, and XDS_YARDSTICK another program. Where there is none, it says where it looked, on standard error
+with status 1.
 """
 
 import importlib
@@ -50,13 +51,14 @@ class Reference:
         self.rows = pathlib.Path(folder).resolve().parent / "rows"
         sys.dont_write_bytecode = True
         sys.setrecursionlimit(10_000)
-        check, fuzz, history, patterns, play, report, session, wire = modules_of(
-            folder, "check", "fuzz", "history", "patterns", "play", "report", "session", "wire")
+        check, fuzz, history, legal, patterns, play, report, session, wire = modules_of(
+            folder, "check", "fuzz", "history", "legal", "patterns", "play", "report", "session", "wire")
         self.check, self.Asked = check.check, patterns.Asked
         self.URLS, self.Unreadable, self.read = wire.URLS, wire.Unreadable, wire.read
         self.read_session, self.SessionFault, self.room = session.read_session, session.SessionFault, session.room
         self.fuzz, self.play, self.report = fuzz.fuzz, play.play, report.report
         self.History, self.driver_events, self.readable = history.History, session.driver_events, play.readable
+        self.legal, self.Illegal = legal.legal, legal.Illegal
 
     def history(self, text):
         """What playing a session gives."""
@@ -94,6 +96,14 @@ class Reference:
             return self.report(self.play(self.read_session(text, STAGE), STAGE))
         except self.SessionFault as fault:
             return f"session line {fault.line}: {fault.cause}\n"
+
+    def fault_of_report(self, text, report):
+        """Why a report is no legal history of a session, whose actors may act in any order; None where it is one."""
+        try:
+            self.legal(text, report, STAGE)
+        except self.Illegal as fault:
+            return str(fault)
+        return None
 
     def worked_sessions(self):
         """The worked sessions beside the reference: the name of each, its text, and its report where there is one of its own.

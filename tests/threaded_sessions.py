@@ -1,0 +1,140 @@
+"""tests/threaded_sessions.py PROGRAM [REFERENCE]: plays sessions as they are, so that on threads their actors act in any order.
+
+PROGRAM is xds_replay, which is called with the word `run`. It plays each session of examples/ five times. In each report
+the entries of each actor are those of the stored report in their order: the same lines with the same events. Answers aren't
+compared, since they depend on the order of the actors, and holds neither, since a start that finds no snapshot has none.
+
+REFERENCE is the folder of a reference, which makes random sessions of up to sixteen callers, and tells whether a report is a
+legal history of its session, in whatever order the actors acted. Those that aren't refused and have lines of several
+actors are played, 200 or as many as the variable SESSIONS says. Each report is legal. Of 1,000 or more at least 30 in 100
+stand in another order than the session's lines, since else hardly anything but that order would be judged.
+
+The first three reports that aren't right are kept with their sessions, since at the next run they may be.
+"""
+
+import itertools
+import os
+import pathlib
+import subprocess
+import sys
+import tempfile
+
+HERE = pathlib.Path(__file__).resolve().parent
+sys.path[:0] = [str(HERE), str(HERE.parent / "tools")]
+from compare_histories import told  # noqa: E402
+from reference import Reference  # noqa: E402
+
+TIMES, SESSIONS = 5, 200
+MANY, LEAST_IN_100 = 1_000, 30  # Of so many sessions or more at least these are to be in another order.
+WORDS_OF_EVENT = {"sweep": 1, "endpoint": 3}  # Any other event has two words.
+
+
+def entries(report):
+    """The entries of a report: of each its line of the session, its actor, and its event in words."""
+    for line in report.splitlines():
+        words = line.split(" ")
+        if words[0].isdigit() and len(words) > 3:
+            yield words[1], words[2], words[3:3 + WORDS_OF_EVENT.get(words[3], 2)]
+
+
+def order_of(report):
+    """The order of a report's entries: of each the line and the actor."""
+    return [(line, actor) for line, actor, _ in entries(report)]
+
+
+def by_actor(report):
+    """What each actor does: its lines with their events in their order, without holds, and at the end the last sweep."""
+    found = {"d": []}
+    for line, actor, event in entries(report):
+        if line == "0":
+            for done in found.values():
+                done.append(event)
+        elif event[0] != "hold":
+            found.setdefault(actor, []).append((line, event))
+    return found
+
+
+def played(program, name, text):
+    """What the program writes of a session. Where one has no end, no further one is played."""
+    try:
+        return told(program, text)
+    except subprocess.TimeoutExpired as late:
+        raise SystemExit(f"{name}: no end in {late.timeout:.0f} s") from None
+
+
+class Count:
+    """Counts reports that are right and that aren't, and keeps the first three of these with their sessions."""
+
+    def __init__(self):
+        self.good = self.bad = 0
+
+    def add(self, name, text, report, fault):
+        if fault is None:
+            self.good += 1
+            return
+        self.bad += 1
+        if self.bad <= 3:
+            fault = fault if report.startswith("xds-report") else report.strip()
+            folder = pathlib.Path(tempfile.mkdtemp(prefix="play_on_threads_"))
+            (folder / "session").write_bytes(text)
+            (folder / "report").write_text(report)
+            print(f"{name}: {fault}; {folder} has the session and the report")
+
+
+def play_examples(program):
+    """Plays the examples, and answers whether an actor did anything else than in the stored report."""
+    count = Count()
+    for path in sorted((HERE.parent / "examples").glob("*.session")):
+        text, wanted = path.read_bytes(), by_actor(path.with_suffix(".expected").read_text())
+        for _ in range(TIMES):
+            report = played(program, path.stem, text)
+            count.add(path.stem, text, report, fault_of_actors(by_actor(report), wanted))
+    print(f"{count.good} plays of examples in the order of each actor, {count.bad} not")
+    return count.bad > 0
+
+
+def fault_of_actors(got, wanted):
+    """Which actor does what isn't wanted, or None."""
+    wrong = sorted(actor for actor in got.keys() | wanted.keys() if got.get(actor) != wanted.get(actor))
+    return f"the lines and events of {', '.join(wrong)} aren't those of the stored report" if wrong else None
+
+
+def random_sessions(reference, count):
+    """So many random sessions that are played and have lines of several actors: the number and the text of each, and its
+    report in the order of its lines."""
+    numbers = itertools.count(1)
+    while count:
+        number = next(numbers)
+        text = reference.random_session(number)
+        report = reference.report_of(text)
+        if len({actor for _, actor in order_of(report)}) > 1:
+            count -= 1
+            yield number, text, report
+
+
+def judge(program, reference, sessions):
+    """Plays so many random sessions, and answers whether a report isn't legal, or too few are in another order."""
+    count, other = Count(), 0
+    for number, text, in_order in random_sessions(reference, sessions):
+        name = f"session {number}"
+        report = played(program, name, text)
+        fault = reference.fault_of_report(text, report)
+        count.add(name, text, report, fault)
+        other += fault is None and order_of(report) != order_of(in_order)
+    is_few = sessions >= MANY and 100 * other < LEAST_IN_100 * sessions
+    if is_few:
+        print(f"fewer than {LEAST_IN_100} in 100 are in another order")
+    print(f"{count.good} legal, {other} in another order")
+    return count.bad > 0 or is_few
+
+
+def main():
+    program = pathlib.Path(sys.argv[1]).resolve()
+    is_bad = play_examples(program)
+    if len(sys.argv) > 2:
+        is_bad |= judge(program, Reference(sys.argv[2]), int(os.environ.get("SESSIONS") or SESSIONS))
+    return is_bad
+
+
+if __name__ == "__main__":
+    sys.exit(main())
