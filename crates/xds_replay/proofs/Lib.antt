@@ -1,2 +1,1 @@
-mod BootLemmas
 mod RunLemmas

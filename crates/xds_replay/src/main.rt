@@ -2,11 +2,12 @@
 //! and writes its totals.
 #![tactic(auto)]
 
+pub mod open_gate;
 pub mod program;
-pub mod session_input;
 pub mod standard_streams;
 
 use header_match::RegexPatterns;
+use open_gate::OpenGate;
 use program::run;
 use program_status::Status;
 use standard_streams::{StandardInput, StandardOutput};
@@ -15,6 +16,7 @@ use std::io::{Read, Write};
 use std::process::ExitCode;
 use std::rt::Env;
 use std::sync::Wait;
+use std::thread::Threads;
 use std::{env, io};
 
 /// Why there are no words: one of them isn't text, or there was no memory.
@@ -47,7 +49,7 @@ fn tell<R: Eprint>(rt: &R, status: Status) {
 }
 
 /// Runs the command over an input and an output, and hands on what the output still has to take.
-fn run_over<R: Wait + Sync, I: Read + Drop, O: Write + Drop>(
+fn run_over<R: Threads + Wait + Sync, I: Read + Drop, O: Write + Drop>(
     rt: &R,
     alloc: Global,
     words: &[String],
@@ -57,7 +59,15 @@ fn run_over<R: Wait + Sync, I: Read + Drop, O: Write + Drop>(
     let mut source = StandardInput::new(alloc, input).map_err(|_| Status::Memory)?;
     let mut sink = StandardOutput::new(alloc, output).map_err(|_| Status::Memory)?;
     let mut patterns = RegexPatterns::new(alloc);
-    let status = run(rt, alloc, words, &mut source, &mut sink, &mut patterns);
+    let status = run(
+        rt,
+        alloc,
+        words,
+        &mut source,
+        &mut sink,
+        &mut patterns,
+        &OpenGate,
+    );
     sink.flush().map_err(|_| Status::WriteFault)?;
     Ok(status)
 }

@@ -18,16 +18,19 @@ ghost use Rattle.program_status.specs.Commands.{command_of};
 ghost use Rattle.program_status.specs.declared.commands.Command.{Command as Asked};
 ghost use Rattle.xds_replay.specs.Outcomes.{IsBegun, IsDone, IsWritten, WritesNothing, totals_of};
 
-use crate::session_input::{generated_input, session_in};
+use channel_calls::Gate;
 use header_match::Patterns;
 use program_status::{Command, Status, command_of, read_status, status_of, write_status};
 use report_law::{one_report, one_totals};
 use report_writer::write_report;
 use session_generator::write_session;
+use session_input::{generated_input, session_in};
 use session_lines::Session;
-use session_player::{Played, play};
+use session_player::Played;
 use std::alloc::Global;
 use std::sync::Wait;
+use std::thread::Threads;
+use threaded_player::play_on_threads;
 use totals_writer::write_totals;
 use xc_base::{Sink, Source, read_all};
 
@@ -72,12 +75,13 @@ fn total<K: Sink>(
 }
 
 /// Reads a session from the source, plays it, and writes its report to the sink.
-fn replay<S: Source, K: Sink, P: Patterns, R: Wait + Sync>(
+fn replay<S: Source, K: Sink, P: Patterns, G: Gate + Sync, R: Threads + Wait + Sync>(
     rt: &R,
     alloc: Global,
     source: &mut S,
     sink: &mut K,
     patterns: &mut P,
+    gate: &G,
 ) -> Status
     ensures words { result ≢ Status.Words }
     ensures done { result ≡ Status.Done → IsDone Asked.Run (S.left source.old) (K.held sink.old) (K.held sink.new) (P.refused patterns.old) (P.refused patterns.new) }
@@ -101,7 +105,7 @@ fn replay<S: Source, K: Sink, P: Patterns, R: Wait + Sync>(
         Ok(session) => session,
         Err(fault) => return status_of(fault),
     };
-    match play(rt, alloc, &session, patterns) {
+    match play_on_threads(rt, alloc, &session, gate, patterns) {
         Ok(played) => report(alloc, &session, &played, sink),
         Err(_) => Status::Memory,
     }
@@ -120,12 +124,13 @@ fn generate<K: Sink>(alloc: Global, rounds: u32, sink: &mut K) -> Status
 }
 
 /// Plays the generated session of so many rounds, and writes its totals.
-fn load<K: Sink, P: Patterns, R: Wait + Sync>(
+fn load<K: Sink, P: Patterns, G: Gate + Sync, R: Threads + Wait + Sync>(
     rt: &R,
     alloc: Global,
     rounds: u32,
     sink: &mut K,
     patterns: &mut P,
+    gate: &G,
 ) -> Status
     requires least { 1 ≤ rounds }
     requires most { rounds ≤ 1000 }
@@ -138,25 +143,27 @@ fn load<K: Sink, P: Patterns, R: Wait + Sync>(
         Ok(session) => session,
         Err(_) => return Status::Memory,
     };
-    match play(rt, alloc, &session, patterns) {
+    match play_on_threads(rt, alloc, &session, gate, patterns) {
         Ok(played) => total(alloc, rounds, &session, &played, sink),
         Err(_) => Status::Memory,
     }
 }
 
-/// Does what the words ask for: `run` reads a session from the source, plays it on this thread in the order of the file, and
-/// writes its report to the sink; `gen N` writes the generated session of N rounds; `load N` plays that session and writes
-/// its totals. The words come without the program's name.
+/// Does what the words ask for: `run` reads a session from the source, plays it, and writes its report to the sink; `gen N`
+/// writes the generated session of N rounds; `load N` plays that session and writes its totals. A session is played by
+/// threads: the driver by this one, and each caller by one of its own, or by this one, in the order of the file, where none
+/// can be started. The gate is told of calls and lines on the way. The words come without the program's name.
 ///
 /// `Words` comes where the words are none of these commands, and `Session` where the bytes are no session, with the first
 /// fault. A source or a sink that tells nothing of its bytes leaves open what was read or written.
-pub fn run<S: Source, K: Sink, P: Patterns, R: Wait + Sync>(
+pub fn run<S: Source, K: Sink, P: Patterns, G: Gate + Sync, R: Threads + Wait + Sync>(
     rt: &R,
     alloc: Global,
     words: &[String],
     source: &mut S,
     sink: &mut K,
     patterns: &mut P,
+    gate: &G,
 ) -> Status
     // The words are those of no command.
     ensures words { (result ≡ Status.Words) ↔ (command_of words.now ≡ None) }
@@ -192,8 +199,8 @@ pub fn run<S: Source, K: Sink, P: Patterns, R: Wait + Sync>(
 {
     match command_of(words) {
         None => Status::Words,
-        Some(Command::Run) => replay(rt, alloc, source, sink, patterns),
+        Some(Command::Run) => replay(rt, alloc, source, sink, patterns, gate),
         Some(Command::Gen(rounds)) => generate(alloc, rounds, sink),
-        Some(Command::Load(rounds)) => load(rt, alloc, rounds, sink, patterns),
+        Some(Command::Load(rounds)) => load(rt, alloc, rounds, sink, patterns, gate),
     }
 }

@@ -1,5 +1,5 @@
 -- The bootstrap of a session is that of its line 2.
-use Rattle.std.proofs.Common.{◌≡◌, ℕ, ◌+◌, List, [], ◌∷◌, length, codes, Bool, true, false, ltb, cond, Option, Some, None, option_and_then, Result, Ok, Err, IfOk, refl, sym, ap, ◌∙◌, subst}
+use Rattle.std.proofs.Common.{◌≡◌, ℕ, ◌+◌, List, [], ◌∷◌, length, codes, Bool, true, false, ltb, cond, Some, option_and_then, Result, Ok, Err, IfOk, refl, sym, subst}
 use Rattle.std.specs.Option.{ok_or}
 use Rattle.std.specs.Result.{result_ok}
 use Rattle.std.specs.Str.{is_utf8}
@@ -15,7 +15,7 @@ use Rattle.session_lines.specs.declared.cause.Cause.TheVariants as cause
 use Rattle.session_lines.specs.declared.session.Line.{Line}
 use Rattle.session_lines.specs.declared.session.Session.{Session}
 use Rattle.session_lines.specs.declared.session_head.Head.{Head}
-use Rattle.xds_replay.specs.Inputs.{document_in, second_line}
+use Rattle.session_input.specs.Inputs.{document_in, second_line}
 
 then_of : {A B : Type 0} (P : B → Type 0) (r : Result A Refusal) (f : A → Result B Refusal) → ((x : A) → r ≡ Ok x → IfOk (f x) P) → IfOk (r >>= f) P
 then_of P (Ok x) f h = h x refl

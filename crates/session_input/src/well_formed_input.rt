@@ -8,7 +8,7 @@ ghost use Rattle.session_lines.specs.declared.session.Session.{Session as Sessio
 ghost use Rattle.session_generator.specs.Generated.{generated};
 ghost use Rattle.generated_law.specs.GeneratedSession.{generated_session};
 ghost use Rattle.session_shape.specs.SessionShape.{IsWellFormed};
-ghost use Rattle.xds_replay.specs.Inputs.{document_in, second_line};
+ghost use Rattle.session_input.specs.Inputs.{document_in, second_line};
 
 use generated_law::generated_spells;
 use session_generator::write_session;

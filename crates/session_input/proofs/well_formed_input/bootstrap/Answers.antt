@@ -1,7 +1,7 @@
 use Rattle.std.proofs.Common.{◌≡◌, Ok, subst}
 use Rattle.xds_bootstrap.specs.Document.{read_bootstrap}
-use Rattle.xds_replay.proofs.BootLemmas.{boot_is}
-use Rattle.xds_replay.proofs.session_input.bootstrap.Goals as goal
+use Rattle.session_input.proofs.BootLemmas.{boot_is}
+use Rattle.session_input.proofs.well_formed_input.bootstrap.Goals as goal
 
 pub returns-in-Ok-clause-same : goal.returns-in-Ok-clause-same
 returns-in-Ok-clause-same c = λ session spells.

@@ -1,0 +1,17 @@
+//! Why what was played isn't reported.
+use xc_base::Memory;
+
+/// Why what was played isn't reported.
+#[derive(Clone, Copy, PartialEq, Eq)]
+pub enum Stop {
+    /// A lane isn't of the Book, its refused texts aren't those of the journal, or not all that is listed was played.
+    Strange,
+    /// There was no memory.
+    Memory,
+}
+
+impl From<Memory> for Stop {
+    fn from(_: Memory) -> Stop {
+        Stop::Memory
+    }
+}

@@ -1,0 +1,3 @@
+pub mod DriverTexts
+pub mod NextEvents
+pub mod PlayerCrossing

@@ -1,0 +1,13 @@
+//! Sessions that are played on a channel: the driver and each caller on a thread of its own.
+#![tactic(auto)]
+
+mod driver_part;
+mod growing_patterns;
+mod players;
+mod seats;
+pub mod session_channel;
+mod stops;
+pub mod threaded_playing;
+
+pub use session_channel::begin_channel;
+pub use threaded_playing::play_on_threads;
