@@ -54,6 +54,19 @@ def by_actor(report):
     return found
 
 
+def late_holds(report):
+    """How many calls hold their cluster behind an entry of the driver that came after their pin."""
+    late, since_pin = 0, {}
+    for _, actor, event in entries(report):
+        if event[0] == "pin":
+            since_pin[actor] = False
+        elif event[0] == "hold":
+            late += since_pin.pop(actor, False)
+        elif actor == "d":
+            since_pin = dict.fromkeys(since_pin, True)
+    return late
+
+
 def played(program, name, text):
     """What the program writes of a session. Where one has no end, no further one is played."""
     try:
@@ -114,17 +127,18 @@ def random_sessions(reference, count):
 
 def judge(program, reference, sessions):
     """Plays so many random sessions, and answers whether a report isn't legal, or too few are in another order."""
-    count, other = Count(), 0
+    count, other, late = Count(), 0, 0
     for number, text, in_order in random_sessions(reference, sessions):
         name = f"session {number}"
         report = played(program, name, text)
         fault = reference.fault_of_report(text, report)
         count.add(name, text, report, fault)
         other += fault is None and order_of(report) != order_of(in_order)
+        late += late_holds(report)
     is_few = sessions >= MANY and 100 * other < LEAST_IN_100 * sessions
     if is_few:
         print(f"fewer than {LEAST_IN_100} in 100 are in another order")
-    print(f"{count.good} legal, {other} in another order")
+    print(f"{count.good} legal, {other} in another order, {late} holds behind an entry of the driver since their pin")
     return count.bad > 0 or is_few
 
 

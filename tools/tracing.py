@@ -239,7 +239,10 @@ class Tracee:
         self.poke(place, BREAK)
 
     def at_syscall(self, thread):
-        """At a call of the system that is of the kind, and at its end where it is to fail."""
+        """At a call of the system that is of the kind, and at its end where it is to fail. Callers' threads neither read, write
+        nor start others, so the first thread's calls are all that there are."""
+        if thread != self.pid:
+            return
         registers = self.registers(thread)
         if thread in self.inside:
             answer = self.inside.pop(thread)
