@@ -3,9 +3,9 @@
 #![tactic(auto)]
 
 pub mod field;
+pub mod field_reader;
 pub mod nested;
 pub mod oneof;
-pub mod reading;
 pub mod values;
 pub mod varint;
 pub mod wire_laws;
@@ -13,9 +13,9 @@ pub mod wrappers;
 pub mod writing;
 
 pub use field::{Body, Field, Member, WireFault};
+pub use field_reader::fields;
 pub use nested::{Message, read_repeated, read_singular};
 pub use oneof::{if_set, read_member};
-pub use reading::fields;
 pub use values::{
     join_occurrences, last_bool, last_bytes, last_int64, last_run, last_text, last_uint,
     last_uint32, occurrences, oneof_of, repeated, repeated_copies, texts,

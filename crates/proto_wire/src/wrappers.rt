@@ -1,7 +1,7 @@
 //! The messages that wrap a number or a bool, so that its absence is told apart from 0 or false.
 use crate::field::WireFault;
+use crate::field_reader::fields;
 use crate::nested::Message;
-use crate::reading::fields;
 use crate::values::{last_bool, last_uint32};
 use std::alloc::Global;
 

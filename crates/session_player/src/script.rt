@@ -10,7 +10,7 @@ ghost use Rattle.xds_book.specs.BookEntries.{IsPreparedFor};
 ghost use Rattle.session_player.specs.LineProgress.{IsCalling, IsPlayable};
 ghost use Rattle.session_player.specs.Stages.{HasDriven, driver_in, IsOfSession, Refuses, StandsAt, StandsAtEnd, StandsIn, texts_in};
 
-use crate::driver_events::{ends, shared_event};
+use crate::shared_events::{ends, shared_event};
 use crate::stage::Stage;
 use call_journal::{DriverEvent, ListedEvent, Plan};
 use header_match::Patterns;

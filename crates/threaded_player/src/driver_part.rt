@@ -6,9 +6,9 @@ ghost use Rattle.config_assembly.specs.Orders.{Name};
 ghost use Rattle.xds_book.specs.BookEntries.{first_lane};
 ghost use Rattle.threaded_player.specs.ThreadedPlay.{HasGrown, IsDriverFrom};
 
-use crate::growing_patterns::{Growing, Start};
+use crate::fault_stops::stop_of;
+use crate::growing_patterns::{Beginning, Growing};
 use crate::players::Players;
-use crate::stops::stop_of;
 use call_journal::{DriverEvent, Listed, ListedEvent};
 use channel_calls::Gate;
 use closed_book::Stop;
@@ -32,7 +32,7 @@ impl<J: Job> Players<J> {
     fn staying_lanes<R: Wait>(&self, rt: &R) -> Result<Vec<Lane<J>>, Memory> {
         let mut lanes = Vec::new(self.alloc);
         for seat in self.seats.as_slice() {
-            if let Some(lane) = seat.take_staying(rt) {
+            if let Some(lane) = seat.take_without_thread(rt) {
                 lanes.push(lane)?;
             }
         }
@@ -200,7 +200,7 @@ impl<J: Job> Players<J> {
 }
 
 /// Plays the part of this thread with the builder of patterns that B names.
-fn drive_with<'p, J: Job, B: Start, R: Wait + Sync, G: Gate, P: Patterns>(
+fn drive_with<'p, J: Job, B: Beginning, R: Wait + Sync, G: Gate, P: Patterns>(
     players: &Players<J>,
     rt: &R,
     gate: &G,

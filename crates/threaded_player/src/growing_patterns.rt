@@ -7,7 +7,7 @@ use std::marker::{Brand, PhantomData};
 
 /// Names a builder of patterns, and the texts that it had refused. It has no call: whoever calls a function that is generic
 /// over it says there what it names.
-pub(crate) trait Start {
+pub(crate) trait Beginning {
     ghost use Rattle.std.specs.Prelude.{List, ℕ};
 
     /// The ghost name of the builder's reference.
@@ -17,7 +17,7 @@ pub(crate) trait Start {
     ghost told: { List (List ℕ) };
 }
 
-impl Start for Brand {
+impl Beginning for Brand {
     ghost use Rattle.std.specs.Prelude.{[]};
 
     ghost name = { 0 };
@@ -27,14 +27,14 @@ impl Start for Brand {
 
 /// The builder that B names. It has refused the texts that B names, and perhaps more since then.
 #[derive(Drop)]
-pub(crate) struct Growing<'p, P: Patterns, B: Start> {
+pub(crate) struct Growing<'p, P: Patterns, B: Beginning> {
     pub(crate) patterns: &'p mut P,
     pub(crate) of: PhantomData<B>,
     ghost same: { patterns.ghost_name ≡ B.name },
     ghost grown: { HasGrown B.told (P.refused patterns.now) },
 }
 
-impl<'p, P: Patterns, B: Start> Patterns for Growing<'p, P, B> {
+impl<'p, P: Patterns, B: Beginning> Patterns for Growing<'p, P, B> {
     ghost refused = { λ g. P.refused g.patterns.now };
 
     fn build(&mut self, text: &str) -> Result<Pattern, PatternFault> {

@@ -2,11 +2,11 @@
 #![tactic(auto)]
 
 mod driver_part;
+mod fault_stops;
 mod growing_patterns;
 mod players;
 mod seats;
 pub mod session_channel;
-mod stops;
 pub mod threaded_playing;
 
 pub use session_channel::begin_channel;

@@ -4,9 +4,9 @@ ghost use Rattle.channel_calls.specs.ChannelPlans.{HasNext};
 ghost use Rattle.xds_book.specs.BookEntries.{first_lane};
 ghost use Rattle.session_player.specs.Stages.{IsOfSession};
 
+use crate::fault_stops::stop_of;
 use crate::seats::Seat;
 use crate::session_channel::begin_channel;
-use crate::stops::stop_of;
 use call_journal::{Listed, ListedEvent, Plan};
 use caller_threads::Crew;
 use channel_calls::{Channel, Gate};
@@ -172,7 +172,7 @@ impl<J: Job> Players<J> {
 
     /// Plays all that is listed for the caller of a seat, on this thread.
     fn play_seat<R: Wait + Sync, G: Gate>(&self, rt: &R, gate: &G, seat: &Seat<J>) {
-        let Some(mut lane) = seat.take_waiting(rt) else {
+        let Some(mut lane) = seat.take_for_thread(rt) else {
             return;
         };
         match self.play_all::<R, G, Brand>(rt, gate, Blank::new(1), &mut lane) {

@@ -34,7 +34,7 @@ impl<J: Job> Seat<J> {
     }
 
     /// Takes the lane that waits for a thread.
-    pub(crate) fn take_waiting<R: Wait>(&self, rt: &R) -> Option<Lane<J>> {
+    pub(crate) fn take_for_thread<R: Wait>(&self, rt: &R) -> Option<Lane<J>> {
         let mut seated = self.seated.lock(rt);
         match mem::replace(&mut *seated, Seated::Away) {
             Seated::Waiting(lane) => Some(lane),
@@ -46,7 +46,7 @@ impl<J: Job> Seat<J> {
     }
 
     /// Takes the lane for which no thread could be started.
-    pub(crate) fn take_staying<R: Wait>(&self, rt: &R) -> Option<Lane<J>> {
+    pub(crate) fn take_without_thread<R: Wait>(&self, rt: &R) -> Option<Lane<J>> {
         let mut seated = self.seated.lock(rt);
         match mem::replace(&mut *seated, Seated::Away) {
             Seated::Staying(lane) => Some(lane),
@@ -59,7 +59,7 @@ impl<J: Job> Seat<J> {
 
     /// No thread could be started for the lane that waits for one.
     pub(crate) fn stay<R: Wait>(&self, rt: &R) {
-        if let Some(lane) = self.take_waiting(rt) {
+        if let Some(lane) = self.take_for_thread(rt) {
             *self.seated.lock(rt) = Seated::Staying(lane);
         }
     }

@@ -1,12 +1,12 @@
 -- What a run did, from what its parts did.
-use Rattle.std.proofs.Common.{◌≡◌, ◌<◌, ◌≤◌, ◌+◌, ℕ, ◌⊎◌, inl, inr, List, [], take, length, Option, Some, None, IfSome, Result, Ok, Err, sym, ap, ◌∙◌, refl, arith, length-take-le, take_all, subst}
+use Rattle.std.proofs.Common.{◌≡◌, ◌<◌, ◌≤◌, ◌+◌, ℕ, ◌⊎◌, inl, inr, List, take, length, Option, Some, None, IfSome, Result, Ok, Err, sym, ap, ◌∙◌, refl, arith, length-take-le, take_all, subst}
 use Rattle.std.proofs.lemmas.Bool.{cases_lt, lt-ltb}
 use Rattle.std.proofs.KnownBytes.{Keeps-refl}
 use Rattle.std.specs.Io.KnownBytes.{Appends, Keeps}
 use Rattle.xc_base.specs.Outside.{AppendsPrefix}
 use Rattle.call_journal.specs.declared.entry.Entry.{Entry}
 use Rattle.config_assembly.specs.Orders.{Name}
-use Rattle.session_lines.specs.Session.{◌>>=◌, Fails, Refusal, session_of, session_within}
+use Rattle.session_lines.specs.Session.{Fails, Refusal, session_of, session_within}
 use Rattle.session_lines.specs.declared.cause.Cause.{Cause}
 use Rattle.session_lines.specs.declared.cause.SessionFault.{SessionFault}
 use Rattle.session_lines.specs.declared.cause.SessionFault.TheVariants as fault

@@ -2,7 +2,7 @@ use Rattle.std.proofs.Common.{◌≡◌, ◌≤◌, ◌+◌, ◌-◌, length, ve
 use Rattle.proto_wire.specs.FieldValues.{delimited_len}
 use Rattle.proto_wire.specs.View.{views}
 use Rattle.proto_wire.specs.Wire.{with_prefix, fields_within, fields}
-use Rattle.proto_wire.proofs.reading.fields.Given as goal
+use Rattle.proto_wire.proofs.field_reader.fields.Given as goal
 
 abbrev pub invariant-loop-rest : goal.invariant-loop-rest
 invariant-loop-rest l = record {

@@ -3,7 +3,7 @@ use Rattle.std.proofs.lemmas.List.{map-append}
 use Rattle.proto_wire.specs.View.{views, payload_of}
 use Rattle.proto_wire.proofs.LenLemmas.{delimited_len-none, delimited_len-push}
 use Rattle.proto_wire.proofs.FieldLemmas.{field_more, field_fails, fields_end, fields_begin, nonempty, emptied}
-use Rattle.proto_wire.proofs.reading.fields.Goals as goal
+use Rattle.proto_wire.proofs.field_reader.fields.Goals as goal
 
 pub loop-rest-init : goal.loop-rest-init
 loop-rest-init c = record {
