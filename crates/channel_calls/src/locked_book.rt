@@ -1,9 +1,8 @@
 //! The Book under the lock of a channel.
-ghost use Rattle.std.specs.Prelude.{◌≡◌, ◌<◌, length, IfErr, IfOk, IsTrue, None, OnErr, OnOk, false};
+ghost use Rattle.std.specs.Prelude.{◌≡◌, ◌<◌, length, IfErr, IfOk, None, OnErr, OnOk, false};
 ghost use Rattle.call_journal.specs.declared.plan.Count.{Count as CountValue};
 ghost use Rattle.call_journal.specs.declared.plan.ListedEvent.{ListedEvent};
 ghost use Rattle.route_match.specs.Routes.{route};
-ghost use Rattle.book_progress.specs.EndedLines.{IsOpen};
 ghost use Rattle.book_progress.specs.ProgressKept.{most_entries};
 ghost use Rattle.book_hearing.specs.HeardEvents.{IsPreparedFor, texts_of};
 ghost use Rattle.xds_book.specs.BookViews.{pinned_front};
@@ -15,6 +14,7 @@ ghost use Rattle.channel_calls.specs.LockedBooks.{IsAfterEvent, IsAfterPin, IsFr
 use crate::channel_faults::{ChanFault, First};
 use crate::line_waits::Waits;
 use call_journal::DriverEvent;
+use lane_checks::{Difference, difference, has_to_wait};
 use resource_check::Prepared;
 use route_match::RouteAnswer;
 use std::alloc::Global;
@@ -76,28 +76,12 @@ impl<J: Job> Locked<J> {
         self.book
     }
 
-    /// Whether the line that has to end before a step has ended.
-    fn is_open(&self, after: Option<u32>) -> bool
-        ensures { IsTrue result → IsOpen after self.now.book.entries }
-    {
-        match after {
-            Some(line) => self.book.line_done(line),
-            None => true,
-        }
-    }
-
     /// Whether a step of the lane has to wait: the channel goes on, the lane is of the Book, and the line that has to end
     /// before the step hasn't ended.
     pub(crate) fn holds_back(&self, lane: &Lane<J>, after: Option<u32>) -> bool
         ensures { result ≡ false → IsFree lane.now after self.now }
     {
-        if self.waits.first().is_some() {
-            return false;
-        }
-        if !self.book.is_of(lane) {
-            return false;
-        }
-        !self.is_open(after)
+        self.waits.first().is_none() && has_to_wait(&self.book, lane, after)
     }
 
     /// Notes for which line a step of the lane waits, if it has to wait.
@@ -142,11 +126,9 @@ impl<J: Job> Locked<J> {
             return Err(ChanFault::Ended(first));
         }
         let _actors = self.book.actors();
-        if self.book.is_of(lane) {
+        let Some(Difference { book, lane }) = difference(&self.book, lane) else {
             return Ok(());
-        }
-        let book = self.book.count(lane.actor());
-        let lane = lane.count();
+        };
         self.waits.end(First::Stranger { book, lane });
         Err(ChanFault::Stranger { book, lane })
     }

@@ -1,5 +1,5 @@
 -- A Book whose actors have all ended is that of a legal history.
-use Rattle.std.proofs.Common.{◌≡◌, ◌<◌, ◌≤◌, ℕ, suc, ◌+◌, List, [], ◌∷◌, ◌++◌, length, All, Bool, true, false, Option, Some, None, refl, inl, inr, sym, ap, ◌∙◌, subst, arith, append-nil}
+use Rattle.std.proofs.Common.{◌≡◌, ◌<◌, ◌≤◌, ℕ, suc, ◌+◌, List, [], ◌∷◌, ◌++◌, length, All, Bool, false, Option, Some, None, refl, inl, inr, sym, ap, ◌∙◌, subst, arith, append-nil}
 use Rattle.std.specs.Prelude.{◌==◌}
 use Rattle.std.specs.List.{slice_get}
 use Rattle.std.proofs.lemmas.Bool.{cond-false}
@@ -36,7 +36,7 @@ use Rattle.xds_book.specs.BookViews.{BookView, LaneView}
 use Rattle.session_player.specs.LineProgress.{HaveLeft}
 use Rattle.session_player.specs.Stages.{IsOfSession}
 use Rattle.session_player.proofs.EndLemmas.{end_is_legal}
-use Rattle.closed_book.specs.EndedPlans.{HaveEndedTo, all_ended}
+use Rattle.lane_checks.specs.EndedPlans.{HaveEndedTo, all_ended}
 
 -- ---- the last sweep
 
@@ -64,24 +64,6 @@ sweep_refuses old new before after drives =
 
 pub sweep_ends : (old new : BookView) (before after : LaneView) → Drives 0 DriverEvent.Sweep None old new before after → EndsInSweep new.entries
 sweep_ends old new before after drives = subst (λ (es : List Entry). EndsInSweep es) (sym drives.makes.entries) refl
-
--- ---- counts
-
-abbrev all_of : Option (List Listed) → Option Count
-all_of None = None
-all_of (Some list) = Some (all_ended list)
-
--- one actor more
-pub ended_more : (n : ℕ) (lists : List (List Listed)) (counts : List Count) (list : List Listed) → slice_get lists n ≡ Some list → slice_get counts n ≡ Some (all_ended list)
-    → HaveEndedTo n lists counts → HaveEndedTo (n + 1) lists counts
-ended_more n lists counts list at ended to actor other less get = by_test (actor == n) refl
-  where
-    by_test : (b : Bool) → (actor == n) ≡ b → slice_get counts actor ≡ Some (all_ended other)
-    by_test true is =
-        let same : actor ≡ n = grind (arith, nat_tests) in
-        let one : Some list ≡ Some other = sym at ∙ (ap (λ (k : ℕ). slice_get lists k) (sym same) ∙ get) in
-        ap (λ (k : ℕ). slice_get counts k) same ∙ (ended ∙ ap (λ (o : Option (List Listed)). all_of o) one)
-    by_test false is = to actor other (grind (arith, nat_tests)) get
 
 -- ---- the end
 

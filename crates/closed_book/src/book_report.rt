@@ -1,9 +1,6 @@
 //! The Book of a channel whose threads have ended: its tests, the last sweep, and what is reported.
-ghost use Rattle.std.specs.Prelude.{◌≡◌, ◌<◌, ◌≤◌, length, All, IfOk, IsTrue, None, OnOk, Some, slice_get};
-ghost use Rattle.call_journal.specs.declared.event.DriverEvent.TheVariants.{Sweep as SweepValue};
-ghost use Rattle.call_journal.specs.declared.plan.ListedEvent.TheVariants as ListedValue;
+ghost use Rattle.std.specs.Prelude.{◌≡◌, ◌<◌, ◌≤◌, length, All, IfOk, OnOk, Some};
 ghost use Rattle.snapshot_store.specs.Tickets.{values_of};
-ghost use Rattle.config_assembly.specs.Orders.{Name};
 ghost use Rattle.session_lines.specs.declared.session.Session.{Session as SessionValue};
 ghost use Rattle.xds_history.specs.Pages.{pages};
 ghost use Rattle.xds_history.specs.References.{snapshots_of};
@@ -12,13 +9,12 @@ ghost use Rattle.xds_history.specs.Setting.{setting_of};
 ghost use Rattle.legal_history.specs.Legal.{EndsInSweep, Legal};
 ghost use Rattle.book_progress.specs.ProgressKept.{most_entries};
 ghost use Rattle.xds_book.specs.BookEntries.{IsLaneOf};
-ghost use Rattle.xds_book.specs.BookKept.{HasActors};
-ghost use Rattle.session_player.specs.Stages.{IsOfSession, Refuses};
-ghost use Rattle.closed_book.specs.EndedPlans.{HaveEndedTo, all_ended};
+ghost use Rattle.session_player.specs.Stages.{IsOfSession};
+ghost use Rattle.lane_checks.specs.EndedPlans.{HaveEndedTo};
 
-use crate::next_events::next_listed;
 use crate::stops::Stop;
-use call_journal::{DriverEvent, Listed, ListedEvent, Plan};
+use call_journal::{DriverEvent, Plan};
+use lane_checks::{have_played_all, is_last_sweep, next_listed};
 use session_player::Played;
 use std::sync::Wait;
 use std::sync::ledger::{Blank, Ledger};
@@ -43,54 +39,6 @@ fn stop_in(fault: BookFault) -> Stop {
         BookFault::Memory => Stop::Memory,
         BookFault::Ended | BookFault::Full => Stop::Strange,
     }
-}
-
-/// Whether a listed event is the last sweep.
-fn is_last_sweep(listed: &Listed) -> bool
-    ensures line { IsTrue result → listed.now.line ≡ 0 }
-    ensures gate { IsTrue result → listed.now.after ≡ None }
-    ensures event { IsTrue result → listed.now.event ≡ ListedValue.Driver SweepValue }
-{
-    listed.line == 0
-        && listed.after.is_none()
-        && matches!(listed.event, ListedEvent::Driver(DriverEvent::Sweep))
-}
-
-/// Whether all these lanes are of the Book.
-fn are_of<J: Job>(book: &Book<J>, lanes: &[Lane<J>]) -> bool
-    ensures { IsTrue result → All (λ lane. IsLaneOf lane book.now) lanes.now }
-{
-    for lane in lanes {
-        if !book.is_of(lane) {
-            return false;
-        }
-    }
-    true
-}
-
-/// Whether an actor has ended all events of its list, and no pin is up.
-fn has_ended<J: Job>(book: &Book<J>, actor: u16, list: &List<Listed>) -> bool
-    requires { actor < length book.now.counts }
-    ensures { IsTrue result → slice_get book.now.counts actor ≡ Some (all_ended list.now) }
-{
-    let count = book.count(actor);
-    count.ended as usize == list.len() && count.pins == 0
-}
-
-/// Whether each actor has ended all events of its list.
-fn have_ended<J: Job>(book: &Book<J>, plan: &Plan) -> bool
-    requires { length plan.now.actors ≡ length book.now.counts }
-    ensures { IsTrue result → HaveEndedTo (length plan.now.actors) plan.now.actors book.now.counts }
-{
-    for place in 0..plan.actors.len() {
-        let Ok(actor) = u16::try_from(place) else {
-            return false;
-        };
-        if !has_ended(book, actor, plan.actors.at(place)) {
-            return false;
-        }
-    }
-    true
 }
 
 impl<J: Job> ClosedBook<J> {
@@ -121,21 +69,6 @@ impl<J: Job> ClosedBook<J> {
             Ok(_) => Ok(()),
             Err(fault) => Err(stop_in(fault)),
         }
-    }
-
-    /// Whether each lane is of the Book, the driver's refused texts are those of the journal, and all that is listed was
-    /// played.
-    fn is_whole(&self, driver: &Lane<J>) -> bool
-        ensures refused { IsTrue result → driver.now.refused ≡ refused_texts self.now.book.entries }
-        ensures driver { IsTrue result → IsLaneOf driver.now self.now.book }
-        ensures lanes { IsTrue result → All (λ lane. IsLaneOf lane self.now.book) self.now.lanes }
-        ensures ended { IsTrue result → HaveEndedTo (length self.now.plan.actors) self.now.plan.actors self.now.book.counts }
-    {
-        let _actors = self.book.actors();
-        self.book.is_of(driver)
-            && self.book.refused_as(driver)
-            && are_of(&self.book, self.lanes.as_slice())
-            && have_ended(&self.book, &self.plan)
     }
 
     /// The journal, and the snapshots that were published.
@@ -174,7 +107,8 @@ impl<J: Job> ClosedBook<J> {
         let mut driver = driver;
         let mut steps = Steps::<L>::new(blank);
         closed.sweep(rt, &mut driver, &mut steps)?;
-        if !closed.is_whole(&driver) {
+        let callers = closed.lanes.as_slice();
+        if !have_played_all(&closed.book, &closed.plan, &driver, callers) {
             return Err(Stop::Strange);
         }
         Ok(closed.finish())

@@ -2,9 +2,7 @@
 #![tactic(auto)]
 
 pub mod book_report;
-pub mod next_events;
 pub mod stops;
 
 pub use book_report::ClosedBook;
-pub use next_events::next_listed;
 pub use stops::Stop;

@@ -4,9 +4,9 @@ ghost use Rattle.session_player.specs.Stages.{IsOfSession};
 
 use call_journal::{Count, ListedEvent, Plan};
 use channel_calls::{ChanFault, Channel, First};
-use closed_book::next_listed;
 use cluster_tree::Snapshot;
 use header_match::RegexPatterns;
+use lane_checks::next_listed;
 use session_input::session_in;
 use session_lines::Session;
 use session_plan::plan_session;
