@@ -4,3 +4,6 @@ pub mod StepLemmas
 pub mod PlaceLemmas
 pub mod QuietLemmas
 pub mod ErrorLemmas
+pub mod SettleLemmas
+pub mod MarkLemmas
+pub mod TellLemmas

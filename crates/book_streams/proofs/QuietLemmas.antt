@@ -1,6 +1,5 @@
 -- Streams on which nothing changes.
 use Rattle.std.proofs.Common.{◌≡◌, ◌==◌, Bool, true, false, ◌||◌, not, if◌then◌else◌, Option, Some, None, List, [], ◌∷◌, ◌++◌, map, length, refl, sym, ap, ap₂, ◌∙◌, is_some, unwrap_or}
-use Rattle.std.specs.List.{cons_option, filter_map}
 use Rattle.xc_base.specs.declared.names.Kind.{Kind}
 use Rattle.xc_base.specs.declared.names.Authority.{Authority}
 use Rattle.proto_discovery.specs.declared.request.Request.{Request}

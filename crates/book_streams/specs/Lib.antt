@@ -2,3 +2,4 @@ pub mod StreamsKept
 pub mod Telling
 pub mod RefusalText
 pub mod StreamsLaws
+pub mod Settling

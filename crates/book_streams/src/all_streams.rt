@@ -19,8 +19,9 @@ ghost use Rattle.book_streams.specs.StreamsKept.{names_among, states_of, states_
 ghost use Rattle.book_streams.specs.StreamsLaws.{IsTold, authority_in, came_with, turned_state, entry_of, lost_if, response_came};
 ghost use Rattle.book_streams.specs.Telling.{told_first, sent_first};
 
-use crate::asking::tell;
 use crate::event_turns::{authority_in, turn_by};
+use crate::marked_streams::{tell_marked, watch};
+use crate::stream_marks::StreamMarks;
 use ads_stream::{Stream, Verdict};
 use call_journal::{DriverEvent, Sent};
 use std::alloc::Global;
@@ -28,23 +29,26 @@ use std::marker::Model;
 use xc_base::{Authority, Key, Kind, List, Memory, Node, Text};
 use xds_history::Turn;
 
-/// A stream for each authority, in the order of the bootstrap; there are at most 65,536. Contracts see the states of the
-/// streams.
+/// A stream for each authority, in the order of the bootstrap; there are at most 65,536. Nothing is due on a stream that isn't
+/// marked, by the keys that were told last. Contracts see the states of the streams.
 #[derive(Drop)]
 pub struct Streams {
     alloc: Global,
     streams: Vec<Stream>,
+    marks: StreamMarks,
+    told: List<Key>,
 }
 
 impl Model for Streams {
-    ghost use Rattle.std.specs.Prelude.{List, length, ◌≤◌};
+    ghost use Rattle.std.specs.Prelude.{List};
     ghost use Rattle.ads_stream.specs.declared.stream.StreamState.{StreamState};
+    ghost use Rattle.book_streams.specs.Settling.{AreKept};
 
     ghost Value = { List StreamState };
 
     ghost view = { λ b. b.streams.items };
 
-    ghost invariant = { λ b. length b.streams.items ≤ 65536 };
+    ghost invariant = { λ b. AreKept b.streams.items b.marks b.told };
 }
 
 /// A copy of a node.
@@ -75,7 +79,13 @@ impl Streams {
         for place in 0..count {
             streams.push(Stream::new(alloc, copy_of(node)?))?;
         }
-        Ok(Streams { alloc, streams })
+        let marks = StreamMarks::new(alloc, count)?;
+        Ok(Streams {
+            alloc,
+            streams,
+            marks,
+            told: List::new(alloc),
+        })
     }
 
     /// How many they are.
@@ -90,15 +100,18 @@ impl Streams {
         requires { place < length self.old }
         ensures { (state : StreamState) → slice_get self.old place ≡ Some state → self.new ≡ slice_set self.old place (opened state) }
     {
+        self.marks.mark(place);
         self.streams[place].opened();
     }
 
     /// Ends the stream at a place, and answers whether it was up.
+    #[tactic(auto, using(crate::proofs::TellLemmas::kept_marked))]
     fn lose(&mut self, place: usize) -> bool
         requires { place < length self.old }
         ensures was_up { (state : StreamState) → slice_get self.old place ≡ Some state → result ≡ state.is_up }
         ensures state { (state : StreamState) → slice_get self.old place ≡ Some state → self.new ≡ slice_set self.old place (lost state) }
     {
+        self.marks.mark(place);
         self.streams[place].lost()
     }
 
@@ -116,6 +129,7 @@ impl Streams {
         ensures ok { OnOk result ((state : StreamState) → slice_get self.old place ≡ Some state → self.new ≡ slice_set self.old place (response_taken state kind version.now nonce.now (option_copied error.entry))) }
         ensures err { OnErr result (self.new ≡ self.old) }
     {
+        self.marks.mark(place);
         self.streams[place].response(kind, version, nonce, error)
     }
 
@@ -227,22 +241,14 @@ impl Streams {
         Ok(verdict)
     }
 
-    /// Tells each stream which keys are watched.
+    /// Tells each stream which keys are watched. Those that aren't marked, and whose names are the same as before, aren't
+    /// looked at.
     fn tell_all(&mut self, keys: &[Key]) -> Result<List<Sent>, Memory>
         ensures sent { IfOk result (λ sent. sent ≡ sent_first 0 (length self.old) (names_among keys.now) self.old) }
         ensures state { OnOk result (self.new ≡ told_first 0 (length self.old) (names_among keys.now) self.old) }
     {
-        let mut sent = List::new(self.alloc);
-        for place in 0..self.streams.len() {
-            let authority = Authority(place as u16);
-            tell(
-                self.alloc,
-                authority,
-                &mut self.streams[place],
-                keys,
-                &mut sent,
-            )?;
-        }
+        watch(self.alloc, &mut self.marks, &mut self.told, keys)?;
+        let sent = tell_marked(self.alloc, &mut self.streams, &mut self.marks, keys)?;
         Ok(sent)
     }
 

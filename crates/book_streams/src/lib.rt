@@ -4,8 +4,11 @@
 
 pub mod all_streams;
 pub mod asking;
+pub mod changed_names;
 pub mod event_turns;
+pub mod marked_streams;
 pub mod refusal_text;
+pub mod stream_marks;
 pub mod streams_laws;
 
 pub use all_streams::Streams;

@@ -1,0 +1,58 @@
+//! The streams that are told which keys are watched.
+ghost use Rattle.std.specs.Prelude.{◌≡◌, List, length, OnOk, IfOk};
+ghost use Rattle.ads_stream.specs.declared.stream.StreamState.{StreamState};
+ghost use Rattle.book_streams.specs.StreamsKept.{names_among};
+ghost use Rattle.book_streams.specs.Settling.{AreKept};
+ghost use Rattle.book_streams.specs.Telling.{told_first, sent_first};
+
+use crate::asking::tell;
+use crate::changed_names::{are_same, mark_changed};
+use crate::stream_marks::StreamMarks;
+use ads_stream::Stream;
+use call_journal::Sent;
+use config_assembly::ordered::copy_keys;
+use std::alloc::Global;
+use xc_base::{Authority, Key, List, Memory};
+
+/// Keeps which keys are watched, and marks the streams of those authorities whose names are others than before. It fails for
+/// want of memory alone.
+pub fn watch(
+    alloc: Global,
+    marks: &mut StreamMarks,
+    told: &mut List<Key>,
+    keys: &[Key],
+) -> Result<(), Memory>
+    ensures told { OnOk result (told.new ≡ keys.now) }
+    ensures kept { (states : List StreamState) → AreKept states marks.old told.old → AreKept states marks.new told.new }
+{
+    if !are_same(told.as_slice(), keys) {
+        let copy = copy_keys(alloc, keys)?;
+        mark_changed(marks, told.as_slice(), keys);
+        *told = copy;
+    }
+    Ok(())
+}
+
+/// Tells the marked streams which keys are watched, and gives the requests that are due by it. All others are settled. It
+/// fails for want of memory alone, and then nothing is said of the streams that are marked.
+pub fn tell_marked(
+    alloc: Global,
+    streams: &mut Vec<Stream>,
+    marks: &mut StreamMarks,
+    keys: &[Key],
+) -> Result<List<Sent>, Memory>
+    requires { AreKept streams.old.items marks.old keys.now }
+    ensures sent { IfOk result (λ sent. sent ≡ sent_first 0 (length streams.old.items) (names_among keys.now) streams.old.items) }
+    ensures state { OnOk result (streams.new.items ≡ told_first 0 (length streams.old.items) (names_among keys.now) streams.old.items) }
+    ensures kept { AreKept streams.new.items marks.new keys.now }
+{
+    let mut sent = List::new(alloc);
+    for place in marks.first()..marks.end() {
+        if marks.is_marked(place) {
+            let authority = Authority(place as u16);
+            tell(alloc, authority, &mut streams[place], keys, &mut sent)?;
+        }
+        marks.pass(place);
+    }
+    Ok(sent)
+}
