@@ -14,7 +14,7 @@ ghost use Rattle.channel_calls.specs.LockedBooks.{IsAfterEvent, IsAfterPin, IsFr
 use crate::channel_faults::{ChanFault, First};
 use crate::line_waits::Waits;
 use call_journal::DriverEvent;
-use lane_checks::{Difference, difference, has_to_wait};
+use lane_checks::{Difference, find_difference, has_to_wait};
 use resource_check::Prepared;
 use route_match::RouteAnswer;
 use std::alloc::Global;
@@ -126,7 +126,7 @@ impl<J: Job> Locked<J> {
             return Err(ChanFault::Ended(first));
         }
         let _actors = self.book.actors();
-        let Some(Difference { book, lane }) = difference(&self.book, lane) else {
+        let Some(Difference { book, lane }) = find_difference(&self.book, lane) else {
             return Ok(());
         };
         self.waits.end(First::Stranger { book, lane });

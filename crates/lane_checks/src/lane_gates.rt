@@ -35,7 +35,7 @@ pub fn has_to_wait<J: Job>(book: &Book<J>, lane: &Lane<J>, after: Option<u32>) -
 
 /// What a Book and a lane count of the lane's actor, where they count differently; None where the lane is of the Book. It takes
 /// no memory.
-pub fn difference<J: Job>(book: &Book<J>, lane: &Lane<J>) -> Option<Difference>
+pub fn find_difference<J: Job>(book: &Book<J>, lane: &Lane<J>) -> Option<Difference>
     requires actor { lane.now.actor < length book.now.counts }
     ensures own { result ≡ None → IsLaneOf lane.now book.now }
     ensures differ { IfSome result (λ d. (d.book ≢ d.lane) × (d.lane ≡ lane.now.count)) }
