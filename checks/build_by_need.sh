@@ -1,16 +1,20 @@
 # Tests of tools/built.sh on a copy of the sources, with a small script in place of `rt`: what is built once is used again
-# while no source that it is made of changes, with and without proof, and what fails is told.
+# while no source that it is made of changes, with and without proof, and what fails is told. A kit that is laid out as the
+# short way needs it is tried too: the short way reads code without contracts, its clang has the linker compile modules, and
+# where it fails the long way is taken.
 set -eu
 cd "$(dirname "$0")/.."
 room=$(mktemp -d)
 trap 'rm -rf "$room"' EXIT
 bad=0 good=0
-mkdir "$room/copy" "$room/bin"
+mkdir -p "$room/copy" "$room/bin" "$room/kit/bin" "$room/kit/c" "$room/kit/toolchain/bin"
 git ls-files -z tools crates crates.txt | tar --null --ignore-failed-read -cf - -T - | tar -xf - -C "$room/copy"
 cat >"$room/bin/rt" <<'STUB'
 #!/usr/bin/env bash
 # In place of `rt`: `run` and `try` make a program that says which of the two it is of, and how many there were before.
-name=$(basename "$PWD") before=$(cat "$MADE" 2>/dev/null || echo 0)
+# In a copy of the sources it is the short way.
+name=$(basename "$PWD") before=$(cat "$MADE" 2>/dev/null || echo 0) way=unproved
+case $PWD in *out/unproved*) way=short ;; esac
 program() {
   printf '#!/bin/sh\necho %s\n' "$1 $before" >"$2" && chmod +x "$2"
   echo $((before + 1)) >"$MADE"
@@ -20,9 +24,18 @@ case $1 in
   lib) [ "$name" != "${FAILS:-}" ] ;;
   run) mkdir -p out && program proved "out/$name" ;;
   try)
-    [ "$name" != "${FAILS:-}" ] || exit 2
-    mkdir -p "$TMPDIR/rt-try/native" && program unproved "$TMPDIR/rt-try/native/program"
-    sleep 0.5
+    [ "$name" != "${FAILS:-}" ] && [ "$way" != "${FAILS:-}" ] || exit 2
+    if [ "$way" = short ]; then
+      clang=$(dirname "$(realpath "$0")")/../toolchain/bin/clang
+      case $("$clang" -O1 -fsanitize=address -c -x ir a -o b) in '-m '*' --lto-O0 '*' a -o b') ;; *) exit 2 ;; esac
+      [ "$("$clang" -O1 -c -x ir a -o b)" = '-O1 -c -x ir a -o b' ] || exit 2
+      ! grep -rqE '^ *(requires|ensures) ' ../*/src || exit 2
+    fi
+    mkdir -p "$TMPDIR/rt-try/native" && program "$way" "$TMPDIR/rt-try/native/program"
+    for _ in $(seq 500); do
+      sleep 0.02
+      [ "$(stat -c %h "$TMPDIR/rt-try/native/program")" = 1 ] || break
+    done
     rm -r "$TMPDIR/rt-try"
     echo 'run=ended status=3 runners=1 proved=no' >&2
     exit 3
@@ -65,5 +78,37 @@ sleep 0.1
 touch "$room/copy/crates/xc_base/specs/Lib.antt"
 built 'a newer definition' 'proved 4' xds_replay
 XDS_REPLAY=/bin/true built 'another program' '' xds_replay
+
+# From here on the kit is laid out as the short way needs it.
+cp "$room/bin/rt" "$room/kit/bin/rt"
+for tool in clang ld.lld; do
+  printf '#!/bin/sh\necho "$*"\n' >"$room/kit/toolchain/bin/$tool"
+  chmod +x "$room/kit/toolchain/bin/$tool"
+done
+echo library >"$room/kit/c/asan.a"
+export PATH=$room/kit/bin:$PATH
+echo '// changed thrice' >>"$room/copy/crates/weight_pick/src/lib.rt"
+built 'the short way' 'short 5' --unproved xds_replay
+built 'the short way, with no change' 'short 5' --unproved xds_replay
+echo '// changed a fourth time' >>"$room/copy/crates/weight_pick/src/lib.rt"
+FAILS=short built 'where the short way fails' 'unproved 6' --unproved xds_replay
+echo '// changed a fifth time' >>"$room/copy/crates/weight_pick/src/lib.rt"
+FAILS=xds_replay built 'where both fail' "tools/built.sh: xds_replay isn't built" --unproved xds_replay
+rm "$room/kit/c/asan.a"
+built 'another kit, which is laid out otherwise' 'unproved 7' --unproved xds_replay
+
+# bare WANTED SOURCE: the source without contracts, its lines joined by `/`.
+bare() {
+  local got
+  got=$(printf "$2" | PYTHONPATH=tools python3 -c "import bare_sources, sys; print(end=bare_sources.bare(sys.stdin.read()))" |
+    tr "\n" /)
+  if [ "$got" = "$1" ]; then good=$((good + 1)); else bad=$((bad + 1)) && echo "bare: '$got', where '$1' is wanted"; fi
+}
+
+bare 'fn f() -> u8/    //{/    1/}/' 'fn f() -> u8\n    ensures one { result \n ≡ 1 }\n{\n    1\n}\n'
+bare 'impl A {/    ghost view = { 1 };/}/' 'impl A {\n    ghost view = { 1 };\n}\n'
+bare 'fn f();/' 'fn f()requires { a ≡ record { b = 1 } }ensures* two { b };\n'
+bare "let a = \"requires { // }\"; let b = '{'; /" "let a = \"requires { // }\"; let b = '{'; // brace\n"
+bare '/* more */ ensures { }' '/* more */ ensures { }'
 echo "build_by_need: $good passed, $bad failed"
 [ "$bad" = 0 ]

@@ -4,6 +4,11 @@
 `rt try` builds and runs a program, and then removes it. So this links the program to out/unproved/ while `rt try` runs it
 on no input. What was built is used again while the sum of its sources, and the kit's, stay the same. Where no program can
 be kept, a script stands in its place that runs `rt try` each time.
+
+The short way is taken first: `rt try` of a copy of the sources without contracts (bare_sources.py), by a kit of links
+that compiles in parts side by side and without the address sanitizer (linked_kit.py). The kit doesn't promise that its files
+lie where that needs them. So where there is no such kit, or the short way builds nothing, `rt try` is called as the kit
+documents it.
 """
 
 import hashlib
@@ -14,7 +19,9 @@ import sys
 import tempfile
 import time
 
+import bare_sources
 import crates
+import linked_kit
 
 KEPT = crates.HOME / "out/unproved"
 PAUSE, SHORT_PAUSE = 0.1, 0.005
@@ -59,14 +66,20 @@ def tell_time(start):
         print(f"\r{time.monotonic() - start:.0f} s ", end="", file=sys.stderr, flush=True)
 
 
-def try_once(folder, kept):
+def words_of(name):
+    """The words that a program is given where it is tried."""
+    file = crates.HOME / "crates" / name / "args"
+    return file.read_text().split() if file.exists() else []
+
+
+def try_once(rt, folder, kept):
     """Runs `rt try` in a crate's folder and keeps its program; answers what it said, and whether the program ran."""
-    words = (folder / "args").read_text().split() if (folder / "args").exists() else []
     with tempfile.TemporaryDirectory(prefix="try-", dir=KEPT) as room, tempfile.TemporaryFile("w+") as said:
         how = {"stdin": subprocess.DEVNULL, "stdout": subprocess.DEVNULL, "stderr": said}
         environment = {**os.environ, "TMPDIR": room}
         start = time.monotonic()
-        run = subprocess.Popen(["rt", "try", "--steps", "1", "--", *words], cwd=folder, env=environment, **how)
+        words = [rt, "try", "--steps", "1", "--", *words_of(kept.name)]
+        run = subprocess.Popen(words, cwd=folder, env=environment, **how)
         while run.poll() is None:
             link_program(pathlib.Path(room), kept)
             tell_time(start)
@@ -78,6 +91,37 @@ def try_once(folder, kept):
     return text, "\nrun=ended " in "\n" + text
 
 
+def try_shortly(kit, kept):
+    """Builds a program the short way; answers why it isn't built, or nothing where it is."""
+    name, known = kept.name, crates.crates_of_repository()
+    with tempfile.TemporaryDirectory(prefix="short-", dir=KEPT) as room:
+        room = pathlib.Path(room)
+        try:
+            bare_sources.copy_bare(crates.HOME, [known[it] for it in crates.below(known, name)], room / "sources")
+            rt = linked_kit.link_kit(kit, room / "kit")
+            said, ran = try_once(rt, room / "sources/crates" / name, kept)
+        except OSError as fault:
+            return str(fault)
+    return "" if ran and kept.exists() else first_fault(said)
+
+
+def first_fault(said):
+    """The line of what `rt try` said that tells what is wrong, or else its first."""
+    lines = [it for it in said.splitlines() if it.strip()]
+    return next((it for it in lines if "error" in it), (lines or ["it says nothing"])[0])
+
+
+def try_in_full(name, kept):
+    """Builds a program as the kit documents it, or ends with what it said."""
+    folder = crates.HOME / "crates" / name
+    said, ran = try_once("rt", folder, kept)
+    if not ran:
+        sys.exit(f"{said}tools/built.sh: {name} isn't built")
+    if not kept.exists():
+        kept.write_text(SCRIPT.format(folder=folder))
+        kept.chmod(0o755)
+
+
 def build(name):
     """The path of the program, which is built where no kept one is of the same sources."""
     kept, stamp, total = KEPT / name, KEPT / f"{name}.sum", sum_of_sources(name)
@@ -87,13 +131,15 @@ def build(name):
     KEPT.mkdir(parents=True, exist_ok=True)
     stamp.unlink(missing_ok=True)
     kept.unlink(missing_ok=True)
-    print(f"tools/built.sh: {name} is built without proof, which takes one to three minutes", file=sys.stderr)
-    said, ran = try_once(crates.HOME / "crates" / name, kept)
-    if not ran:
-        sys.exit(f"{said}tools/built.sh: {name} isn't built")
-    if not kept.exists():
-        kept.write_text(SCRIPT.format(folder=crates.HOME / "crates" / name))
-        kept.chmod(0o755)
+    kit = linked_kit.installed_kit()
+    took = "one to three minutes" if kit else "some three minutes"
+    print(f"tools/built.sh: {name} is built without proof, which takes {took}", file=sys.stderr)
+    fault = try_shortly(kit, kept) if kit else "there is no kit for it"
+    if fault:
+        if kit:
+            print(f"tools/built.sh: the short way fails ({fault}); the long one takes some three minutes", file=sys.stderr)
+        kept.unlink(missing_ok=True)
+        try_in_full(name, kept)
     stamp.write_text(total)
     return kept
 
