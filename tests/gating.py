@@ -20,6 +20,8 @@ FIRST = 5  # the first line that an actor plays
 
 def gated(session: bytes) -> bytes:
     """The session with gates that leave one order of its lines, that of the file."""
+    if b"\nc " not in session and b" c " not in session:
+        return session  # (all lines are the driver's)
     lines, before = session.split(b"\n"), None
     for number, line in enumerate(lines[FIRST - 1:], FIRST):
         if not line:
