@@ -5,6 +5,7 @@ program that is called as `xds_replay` is (with the word `run`) can be compared 
 """
 
 import dataclasses
+import os
 import pathlib
 import re
 import subprocess
@@ -42,13 +43,22 @@ class Player:
     def play(self, text, seconds=60):
         """The end and the report of a session; `no end` where there is none in so many seconds."""
         try:
-            ran = subprocess.run(self.command, input=text, capture_output=True, timeout=seconds, check=False)
+            ran = run(self.command, text, seconds)
         except subprocess.TimeoutExpired:
             return "no end", b""
         if self.is_reader and ran.returncode == 0 and ran.stdout.startswith(b"fault "):
             _, line, cause = ran.stdout.decode().split()
             return f"session line {line}: {cause}", b""
         return self.end_of(ran.returncode, ran.stderr), ran.stdout
+
+
+def run(command, given, seconds):
+    """Runs a command on these bytes for at most so many seconds. They stand in a file, since subprocess would fill a pipe by
+    4,096 bytes at a time."""
+    with open(os.memfd_create("given"), "w+b") as file:
+        file.write(given)
+        file.seek(0)
+        return subprocess.run(command, stdin=file, capture_output=True, timeout=seconds, check=False)
 
 
 def built(name):
