@@ -2,254 +2,212 @@
 """Plays damaged inputs, and compares what a program answers with what a reference program answers.
 
     fuzz.py [--kind KIND] [--program NAME] [--reference FILE] [--seed N] [--count N] [--seconds N] [--batch N]
-            [--lines N] [--keep FILE]
+            [--lines N] [--jobs N] [--keep FILE]
 
-Inputs are made of those in tests/corpus/ and examples/ by tools/mutation.py. Kinds:
+Inputs are made of those in tests/corpus/ and examples/ by tools/mutants.py. Kinds:
 
     session     a session with one to four kinds of damage; each is a run of both programs
     bootstrap   a session with a damaged bootstrap or target, and calls; each is a run of both programs
     message     a session of 1,000 damaged responses among other lines; a response is an input
-    resource    1,000 damaged resources a run, which probe_resource accepts or refuses, and the reference in responses
+    resource    up to 16,000 damaged resources a run, which probe_resource accepts or refuses, and the reference in responses
+    push        the same in a session that both programs play, a line each; a resource is an input
+    frame       a session of up to 16,000 damaged messages and frames on two streams, which are opened anew again and again;
+                each is an input
 
 Two runs agree where both write the same report, or both refuse the session for the same line and cause; with the program
 probe_session, which reads sessions and plays none, where both refuse it for them, or none does. The reference plays a session
 in the order of its lines, so the program is given it with gates that leave this order (tests/gating.py), unless it is refused.
-Versions of `regex` don't refuse the same patterns; inputs in which the two refuse other ones are counted apart
-(`other patterns`). Without a reference program each run is to write a report that ends, or to refuse the session; each
-resource is judged. (The reference is called as xds_replay is; tools/reference.py knows where it is.)
+Without a reference program each run is to write a report that ends, or to refuse the session; each resource is judged. (The
+reference is called as xds_replay is; tools/reference.py knows where it is, and where a slow one stands.)
 
-The inputs of a seed are the same at each run. It stops at the first difference, whose session is made shorter and kept in
---keep (fuzz_found.session), with status 1; else after --count inputs or --seconds, with status 0. The last line says how
-many inputs there were, and of which kinds their ends.
+Versions of `regex` don't refuse the same patterns. Inputs in which the two refuse other ones are counted apart (`other
+patterns`); of the kinds push and frame their lines are left out, and the session is played again.
+
+Of push and frame, the inputs are the answers that the report has but for those to good responses, which the ends have too:
+what is behind a frame or a message that ends a stream isn't counted.
+
+With --jobs N so many processes each take their share. The inputs of a seed are the same at each run. It stops at the first
+difference, whose session is made shorter and kept in --keep (fuzz_found.session), with status 1; else after --count inputs
+or --seconds, with status 0. The last line says how many inputs there were, and of which kinds their ends.
 """
 
 import argparse
 import collections
+import dataclasses
+import multiprocessing
 import os
 import pathlib
 import random
 import re
-import subprocess
 import sys
 import time
+import urllib.parse
 
 sys.path.insert(0, str(pathlib.Path(__file__).resolve().parent))
 sys.path.insert(0, str(pathlib.Path(__file__).resolve().parent.parent / "tests"))
-import corpus  # noqa: E402
-import mutation  # noqa: E402
+import mutants  # noqa: E402
 import player  # noqa: E402
+import quick_damage  # noqa: E402
 import reference as adapter  # noqa: E402
-import wire  # noqa: E402
 from gating import gated  # noqa: E402
 
-BATCH, TRIES = 1_000, 200
+BATCH, MOST, TRIES, PATIENCE = 1_000, 16_000, 400, 600
 OTHER_PATTERNS = "other patterns"
-URLS = {"listener": wire.LISTENER, "route": wire.ROUTE, "cluster": wire.CLUSTER, "endpoint": wire.ENDPOINT}
-BOOT = b'boot {"xds_servers":[{"server_uri":"ms:1"}],"node":{"id":"n"},"authorities":{"a.example":{}}}'
-TARGETS = [b"xds:///svc", b"xds:svc", b"xds://a.example/svc", b"xds://b.example/svc", b"xds:", b"xds:///x%s", b"dns:svc", b"xds:////x",
-           b"xds://a.example//", b"xds://a.example/x[1]%"]
+AUTHORITIES = [b"-", b"+a.example"]
+# What stands in a report for an answer to a response, or to a frame that isn't read.
+ANSWERS = {"ack": b" response %s ack ", "nack": b" response %s nack ", "ignored": b" response %s ignored ",
+           "unreadable": b" response %s unreadable ", "compressed": b" bytes %s compressed ", "toolong": b" bytes %s toolong "}
+# What stands before the bytes in the line of a resource.
+HEADS = {kind: f"{kind} {url.encode().hex()} " for kind, url in mutants.URLS.items()}
+# What answer to a resource comes to what probe_resource says of it.
+WORDS = {"true": b"ack", "false": b"nack"}
+# In a report the answer to a response; the same with its reason, where its one resource is refused; and a refused pattern.
+VERDICT = re.compile(rb" response - (\w+)")
+ANSWER = re.compile(rb"^\d+ \d+ d response - (\w+) [^\n]*\n(?:  pat [^\n]*\n)*(?:  req - [^\n]* err=(\S+))?", re.M)
+PATTERN = re.compile(rb"^  pat (\S*)", re.M)
 
 
-class Inputs:
-    """What is damaged: the sessions, responses and resources of the corpus and of the examples."""
+class Slow:
+    """The slow reference, which plays sessions in this process, or only reads them."""
 
-    def __init__(self, lines):
-        examples = sorted((player.HOME / "examples").glob("*.session"))
-        self.sessions = [row["session"] for row in corpus.read("histories")] + [path.read_bytes() for path in examples]
-        self.sessions = [text for text in self.sessions if len(text) < 40_000 and text.count(b"\n") <= lines]
-        self.payloads = sorted({data for text in self.sessions for data in payloads_of(text)})
-        rows = [(row["kind"], row["value"]) for row in corpus.read("resources")]
-        self.resources = sorted({(list(URLS)[kind], value) for kind, value in rows} | set(map(tuple, resources_of(self.payloads))))
+    def __init__(self, folder, is_reader):
+        self.reference, self.is_reader = adapter.Reference(folder), is_reader
 
-
-def payloads_of(text):
-    """The messages of a session's data lines that are complete frames."""
-    for line in text.split(b"\n"):
-        words = line.split(b" ")
-        if b"data" not in words[:4]:
-            continue
-        try:
-            data = bytes.fromhex(words[-1].decode())
-        except ValueError:
-            continue
-        while len(data) >= 5 and 5 + int.from_bytes(data[1:5], "big") <= len(data):
-            end = 5 + int.from_bytes(data[1:5], "big")
-            yield data[5:end]
-            data = data[end:]
-
-
-def resources_of(payloads):
-    """The resources of responses, each with its kind."""
-    names = {url.encode(): kind for kind, url in URLS.items()}
-    for payload in payloads:
-        for number, _, body in mutation.fields(payload) or []:
-            parts = {it[0]: it[2] for it in mutation.fields(body) or []} if number == 2 and isinstance(body, bytes) else {}
-            if parts.get(1) in names and isinstance(parts.get(2), bytes):
-                yield names[parts[1]], parts[2]
-
-
-def asked(target=b"xds:///svc"):
-    """The lines of a session that comes to ask for resources of each kind, on both of its streams."""
-    mine = wire.weighted_route("", [("c", 1), ("c0", 1), ("web", 1), ("a", 1), ("xdstp://a.example/envoy.config.cluster.v3.Cluster/c", 1)])
-    host = wire.virtual_host("h", ["*"], [mine])
-    frames = [wire.response("1", "n1", wire.LISTENER, [wire.named_listener("svc", "r")]),
-              wire.response("1", "n2", wire.ROUTE, [wire.route_configuration("r", [host])]),
-              wire.response("1", "n3", wire.CLUSTER, [wire.eds_cluster(name) for name in ("c", "c0", "web", "a")])]
-    return [b"xds-session 1", BOOT, b"target " + target, b"callers 2", b"d open -", b"d open +a.example",
-            *(b"d data - " + wire.frame(payload).hex().encode() for payload in frames)]
-
-
-def mutant_session(r, inputs, _):
-    """A session with one to four kinds of damage."""
-    text, damage = r.choice(inputs.sessions), mutation.Damage(r, inputs.sessions)
-    for _ in range(r.choice([1, 1, 2, 2, 3, 4])):
-        text = damage.of_session(text)
-    return text
-
-
-def mutant_bootstrap(r, inputs, _):
-    """A session with a damaged bootstrap or target."""
-    lines = r.choice(inputs.sessions).split(b"\n")
-    damage, word = mutation.Damage(r), lines[1].partition(b" ")[2] if len(lines) > 4 else b"{}"
-    for _ in range(r.choice([1, 1, 2, 3])):
-        word = damage.of_document(word)
-    target = r.choice(TARGETS) if r.random() < 0.3 else lines[2].partition(b" ")[2] if len(lines) > 4 else b""
-    target = damage.of_bytes(target) if r.random() < 0.2 else target
-    return b"\n".join([*lines[:1], b"boot " + word, b"target " + target, *lines[3:12]])
-
-
-def mutant_response(r, inputs, damage):
-    """The payload of a response: a damaged one, or one of damaged resources of one kind."""
-    if r.random() < 0.4:
-        return damage.of_message(r.choice(inputs.payloads))
-    kind, first = r.choice(inputs.resources)
-    some = [first] + [value for it, value in r.choices(inputs.resources, k=r.choice([0, 1, 3, 8])) if it == kind]
-    some = [damage.of_message(value) if r.random() < 0.7 else value for value in some]
-    return wire.response(str(r.randrange(9)), f"n{r.randrange(99)}", URLS[kind], some)
-
-
-def mutant_messages(r, inputs, batch):
-    """A session of so many damaged responses among other lines."""
-    lines, damage = asked(), mutation.Damage(r, inputs.payloads)
-    now = call = 0
-    for _ in range(batch):
-        frame = wire.frame(mutant_response(r, inputs, damage))
-        frame = damage.of_frames(frame) if r.random() < 0.1 else frame
-        authority = b"+a.example" if r.random() < 0.2 else b"-"
-        lines.append(b"d data %s %s" % (authority, frame.hex().encode() or b"00"))
-        turn = r.randrange(12)
-        if turn < 4:
-            lines.append(b"d open " + (authority if turn < 3 else b"-"))
-        elif turn == 4:
-            now += r.choice([0, 1, 5_000, 10_000, 15_000, 900_000])
-            lines.append(b"d time %d" % now)
-        elif turn == 5:
-            lines.append(b"d endpoint 10.0.%d.%d:80 %s" % (r.randrange(2), r.randrange(1, 5), r.choice([b"ready", b"failing", b"idle"])))
-        elif turn == 6:
-            call += 1
-            lines.append(b"c %d start %d %d %s" % (call % 2 + 1, call, r.getrandbits(64), r.choice([b"/a", b"/p.S/M", b"/"])))
-        elif turn in (7, 8) and call:
-            some = r.randrange(max(1, call - 5), call + 1)
-            lines.append(b"c %d %s" % (some % 2 + 1, b"commit %d" % some if turn == 7 else b"pick %d %d" % (some, r.getrandbits(64))))
-    return b"\n".join(lines)
-
-
-def mutant_resources(r, inputs, batch):
-    """So many damaged resources, each with its kind."""
-    damage, out = mutation.Damage(r, [value for _, value in inputs.resources]), []
-    for kind, value in r.choices(inputs.resources, k=batch):
-        for _ in range(r.choice([1, 1, 2])):
-            value = damage.of_message(value)
-        out.append((kind if r.random() < 0.97 else r.choice(list(URLS)), value))
-    return out
+    def play(self, text, _):
+        """The end and the report of a session."""
+        if self.is_reader:
+            return self.reference.fault_of(text) or "done", b""
+        report = self.reference.report_of(text)
+        return (report.rstrip("\n"), b"") if report.startswith("session line ") else ("done", report.encode())
 
 
 class Comparison:
-    """Plays an input by the program and by the reference, and counts the ends."""
+    """Plays inputs by the program and by the reference, and counts them and their ends."""
 
     def __init__(self, program, reference):
-        self.program, self.reference, self.ends = program, reference, collections.Counter()
+        self.program, self.reference, self.count, self.ends = program, reference, 0, collections.Counter()
 
     def given(self, text):
-        """The session as the program is given it, and how the reference plays it: its end, or None without one, and its report."""
+        """The session as the program is given it, and how the reference plays it: its end, or None without one, and its
+        report."""
         if self.reference is None:
             return text, None, b""
-        wanted, report = self.reference.play(text)
+        wanted, report = self.reference.play(text, PATIENCE)
         return gated(text) if wanted == "done" else text, wanted, report
 
-    def difference(self, text):
-        """What is wrong with how the program plays a session, or None; and how it ended."""
+    def play(self, text):
+        """What is wrong with how the program plays a session, or None; how it ended; and both reports."""
         text, wanted, report = self.given(text)
-        end, out = self.program.play(text)
-        if end != "done" and not end.startswith("session line"):
-            return f"the program: {end}", end
-        if end == "done" and not self.program.is_reader and not out.split(b"\n")[-2:-1][0].startswith(b"end "):
-            return "the report has no end", end
-        if wanted is None:
-            return None, end
-        if end != wanted:
-            return f"the program: {end}; the reference: {wanted}", end
-        if out == report or self.program.is_reader:
-            return None, end
-        if patterns_of(out) != patterns_of(report):
-            return None, OTHER_PATTERNS
-        return first_difference(out, report), end
+        end, out = self.program.play(text, PATIENCE)
+        return self.fault(end, out, wanted, report), end, out, report
 
-    def session(self, text):
-        wrong, end = self.difference(text)
-        self.ends[end if end == OTHER_PATTERNS else end.rpartition(" ")[2]] += 1
-        return wrong, text
+    def fault(self, end, out, wanted, report):
+        """What is wrong with an end and a report, where these are wanted, or None. Other patterns aren't wrong."""
+        if end != "done" and not end.startswith("session line"):
+            return f"the program: {end}"
+        if end == "done" and not self.program.is_reader and not out.split(b"\n")[-2:-1][0].startswith(b"end "):
+            return "the report has no end"
+        if wanted is None:
+            return None
+        if end != wanted:
+            return f"the program: {end}; the reference: {wanted}"
+        if out == report or self.program.is_reader or patterns_of(out) != patterns_of(report):
+            return None
+        return first_difference(out, report)
+
+    def others(self, out, report):
+        """The patterns that one of the two refuses alone."""
+        if self.reference is None or self.program.is_reader or out == report:
+            return set()
+        return patterns_of(out) ^ patterns_of(report)
+
+    def session(self, made):
+        """What is wrong with how the program plays a session, or None; and the session."""
+        wrong, end, out, report = self.play(made.text)
+        self.count += made.inputs
+        self.ends[OTHER_PATTERNS if self.others(out, report) else end.rpartition(" ")[2]] += 1
+        return wrong, made.text
+
+    def pushed(self, made):
+        """The same of a session of which each line with an input can be left out, as those with other patterns are."""
+        wrong, end, out, report = self.play(made.text)
+        others = set() if wrong else self.others(out, report)
+        if others:
+            kept = without_patterns(made.text, others)
+            left_out = made.text.count(b"\n") - kept.count(b"\n")
+            self.ends[OTHER_PATTERNS] += left_out or made.inputs
+            return self.pushed(made._replace(text=kept)) if left_out else (None, made.text)
+        answers = {answer: sum(out.count(words % it) for it in AUTHORITIES) for answer, words in ANSWERS.items()}
+        self.ends.update(answers if end == "done" else [end])
+        self.count += max(0, sum(answers.values()) - made.good_responses)
+        return wrong, made.text
 
     def resources(self, given):
-        """What is wrong with how probe_resource judges resources, or None."""
-        lines = "".join(line_of(kind, value) for kind, value in given)
-        ran = subprocess.run([self.program.path, "judge"], input=lines.encode(), capture_output=True, timeout=600, check=False)
+        """What is wrong with how probe_resource judges resources, or None; and the line of the first wrong one."""
+        lines = "".join(line_of(kind, value) for kind, value in given).encode()
+        ran = player.run([self.program.path, "judge"], lines, PATIENCE)
         got = ran.stdout.decode().split()
-        self.ends.update({"true": "accepted", "false": "refused"}.get(word, word) for word in got)
-        if ran.returncode or len(got) != len(given):
-            return f"status {ran.returncode}, {len(got)} answers of {len(given)}: {ran.stderr[:200]!r}", lines.encode()
-        if self.reference is None:
+        self.count += len(given)
+        self.ends.update(accepted=got.count("true"), refused=got.count("false"))
+        if ran.returncode or len(got) != len(given) or not WORDS.keys() >= set(got):
+            return f"status {ran.returncode}, {len(got)} answers of {len(given)}: {ran.stderr[:200]!r}", lines
+        report = self.report_of(given) if self.reference else None
+        if report is None or VERDICT.findall(report)[-len(given):] == [WORDS[word] for word in got]:
             return None, b""
-        answers = self.answers(given)
-        for place, word in enumerate(got):
-            answer, has_pattern = answers.get(place, ("none", False))
-            if answer == ("ack" if word == "true" else "nack"):
+        answers = ANSWER.findall(report)[-len(given):]
+        if len(answers) != len(given):
+            return f"the reference has {len(answers)} answers of {len(given)}", lines
+        for resource, word, (answer, reason) in zip(given, got, answers):
+            if answer == WORDS[word]:
                 continue
-            line = line_of(*given[place])
-            if has_pattern or word == "false" and "BadPattern" in self.shown(line):
-                self.ends[OTHER_PATTERNS] += 1
-                continue
-            return f"{word}, where the reference answers {answer}", line.encode()
+            if not (reason.endswith(b"bad-pattern") or word == "false" and "BadPattern" in self.shown(resource)):
+                return f"{word}, where the reference answers {answer} {reason}", line_of(*resource).encode()
+            self.ends[OTHER_PATTERNS] += 1
         return None, b""
 
-    def answers(self, given):
-        """What the reference answers to each resource, alone in a response, and whether it refused a pattern of it."""
-        head, answers, place = asked(), {}, None
-        frames = [wire.frame(wire.response("", "", URLS[kind], [value])) for kind, value in given]
-        _, report = self.reference.play(b"\n".join(head + [b"d data - " + frame.hex().encode() for frame in frames]))
-        for line in report.split(b"\n"):
-            words = line.split()
-            if words[3:4] == [b"response"]:
-                place = int(words[1]) - len(head) - 1
-                answers[place] = words[5].decode(), False
-            elif words[:1] == [b"pat"]:
-                answers[place] = answers[place][0], True
-        return answers
+    def report_of(self, given):
+        """The reference's report on these resources, each alone in a response, behind that on the responses before them."""
+        lines = [b"d data - " + mutants.alone(kind, value).hex().encode() for kind, value in given]
+        return self.reference.play(b"\n".join(mutants.asked() + lines), PATIENCE)[1]
 
-    def shown(self, line):
+    def shown(self, resource):
         """What probe_resource shows of a resource."""
-        ran = subprocess.run([self.program.path, "show"], input=line.encode(), capture_output=True, timeout=60, check=False)
+        ran = player.run([self.program.path, "show"], line_of(*resource).encode(), PATIENCE)
         return ran.stdout.decode(errors="replace")
+
+
+@dataclasses.dataclass
+class Kind:
+    """A kind of inputs: how a run of them is made, how the run is compared, and of how many it is at most."""
+
+    make: object
+    compare: object
+    batch: int = 1
+
+
+KINDS = {"session": Kind(mutants.mutant_session, Comparison.session),
+         "bootstrap": Kind(mutants.mutant_bootstrap, Comparison.session),
+         "message": Kind(mutants.mutant_messages, Comparison.session, BATCH),
+         "resource": Kind(mutants.damaged_resources, Comparison.resources, MOST),
+         "push": Kind(mutants.pushed_resources, Comparison.pushed, MOST),
+         "frame": Kind(mutants.pushed_frames, Comparison.pushed, MOST)}
 
 
 def line_of(kind, value):
     """The line of a resource, as probe_resource reads it."""
-    return f"{kind} {URLS[kind].encode().hex()} {value.hex()}\n"
+    return f"{HEADS[kind]}{value.hex()}\n"
 
 
 def patterns_of(report):
     """The patterns that a report says were refused."""
-    return [line for line in report.split(b"\n") if line.startswith(b"  pat ")]
+    found = PATTERN.findall(report) if b"\n  pat " in report else []
+    return {urllib.parse.unquote_to_bytes(pattern) for pattern in found}
+
+
+def without_patterns(text, patterns):
+    """A session without the lines of data that have a field with one of these patterns."""
+    fields = [(quick_damage.length_of(len(pattern)) + pattern).hex().encode() for pattern in patterns]
+    return b"\n".join(line for line in text.split(b"\n") if not any(field in line for field in fields))
 
 
 def first_difference(got, wanted):
@@ -264,7 +222,8 @@ def shorter(text, is_wrong):
     """A session that is wrong too, with fewer lines from line 5 on, after so many tries; without gates of its own, where it
     is wrong without them."""
     bare = re.sub(rb"(?m)^@\d+ ", b"", text)
-    lines, tries, size = (bare if is_wrong(bare) else text).split(b"\n"), 0, 64
+    lines, tries = (bare if is_wrong(bare) else text).split(b"\n"), 0
+    size = max(64, len(lines) // 2)
     while size and tries < TRIES:
         at = 4
         while at < len(lines) and tries < TRIES:
@@ -283,47 +242,84 @@ def words():
     about, _, more = __doc__.partition("\n\n")
     parser = argparse.ArgumentParser(prog="fuzz.py", description=about, epilog=more,
                                      formatter_class=argparse.RawDescriptionHelpFormatter)
-    parser.add_argument("--kind", default="session", choices=["session", "bootstrap", "message", "resource"])
+    parser.add_argument("--kind", default="session", choices=list(KINDS))
     parser.add_argument("--program", help="a program of this repository; xds_replay, or probe_resource, where none is named")
-    parser.add_argument("--reference", default=adapter.program()[0], metavar="FILE", help="the reference program")
+    parser.add_argument("--reference", default=adapter.program()[0], metavar="FILE",
+                        help="the reference program, or the folder of the slow one")
     parser.add_argument("--seed", type=int, default=1, metavar="N")
     parser.add_argument("--count", type=int, default=10 ** 12, metavar="N", help="how many inputs")
     parser.add_argument("--seconds", type=float, default=60, metavar="N", help="for how long")
-    parser.add_argument("--batch", type=int, default=BATCH, metavar="N", help="how many messages, or resources, a run has")
-    parser.add_argument("--lines", type=int, default=200_000, metavar="N", help="the most lines of the sessions that are damaged")
+    parser.add_argument("--batch", type=int, metavar="N", help="how many messages, or resources, a run has")
+    parser.add_argument("--lines", type=int, default=200_000, metavar="N",
+                        help="the most lines of the sessions that are damaged")
+    parser.add_argument("--jobs", type=int, default=1, metavar="N", help="how many processes make inputs and play them")
     parser.add_argument("--keep", default="fuzz_found.session", metavar="FILE", help="where a wrong input is kept")
     return parser.parse_args()
 
 
-def find(given, comparison):
-    """Plays inputs until one is wrong or there were enough: what is wrong, its input, and how many there were."""
-    inputs, count, place, until = Inputs(given.lines), 0, 0, time.monotonic() + given.seconds
-    make = {"session": mutant_session, "bootstrap": mutant_bootstrap, "message": mutant_messages, "resource": mutant_resources}[given.kind]
-    each = given.batch if given.kind in ("message", "resource") else 1
-    while count < given.count and time.monotonic() < until:
-        made = make(random.Random(f"{given.kind} {given.seed} {place}"), inputs, given.batch)
-        wrong, text = comparison.resources(made) if given.kind == "resource" else comparison.session(made)
-        place, count = place + 1, count + each
-        if wrong:
-            return wrong, text, count
-    return None, b"", count
+class Search:
+    """Plays inputs in processes of which each takes its share, until one is wrong or there were enough."""
+
+    def __init__(self, given, comparison):
+        self.given, self.comparison, self.inputs = given, comparison, mutants.Inputs(given.lines)
+        self.until, self.is_over = time.monotonic() + given.seconds, multiprocessing.Event()
+
+    def share(self, first):
+        """The share of a process: what is wrong, its input, and how many there were of which ends."""
+        given, comparison, kind = self.given, self.comparison, KINDS[self.given.kind]
+        batch = given.batch or kind.batch
+        wrong, text, place = None, b"", first
+        while comparison.count < given.count / given.jobs and time.monotonic() < self.until and not self.is_over.is_set():
+            made = kind.make(random.Random(f"{given.kind} {given.seed} {place}"), self.inputs, batch)
+            wrong, text = kind.compare(comparison, made)
+            place += given.jobs
+            if wrong:
+                self.is_over.set()
+        return wrong, text, comparison.count, comparison.ends
+
+    def shares(self):
+        """What all processes give."""
+        if self.given.jobs == 1:
+            return [self.share(0)]
+        Search.current = self  # (the processes begin as copies of this one, and find it here)
+        with multiprocessing.get_context("fork").Pool(self.given.jobs) as pool:
+            return pool.map(share_of_current, range(self.given.jobs), chunksize=1)
+
+
+def share_of_current(first):
+    return Search.current.share(first)
+
+
+def reference_at(path, is_reader):
+    """The reference program, or the slow one, that stands there; None where none does."""
+    if os.path.isdir(path):
+        return Slow(path, is_reader)
+    return player.Player(str(path)) if os.path.exists(path) else None
+
+
+def keep(given, comparison, wrong, text):
+    """Tells what is wrong, and keeps the input: resources as they are, a session with fewer lines and with its gates."""
+    if given.kind != "resource":
+        text = comparison.given(shorter(text, lambda it: comparison.play(it)[0]))[0]
+    pathlib.Path(given.keep).write_bytes(text)
+    print(f"{wrong}\nkept: {given.keep}")
 
 
 def main():
     given = words()
     program = player.built(given.program or ("probe_resource" if given.kind == "resource" else "xds_replay"))
-    reference = player.Player(str(given.reference)) if os.path.exists(given.reference) else None
+    reference = reference_at(given.reference, program.is_reader)
     comparison, start = Comparison(program, reference), time.monotonic()
-    wrong, text, count = find(given, comparison)
-    if wrong:
-        if given.kind != "resource":
-            text = comparison.given(shorter(text, lambda it: comparison.difference(it)[0]))[0]
-        pathlib.Path(given.keep).write_bytes(text)
-        print(f"{wrong}\nkept: {given.keep}")
-    ends = ", ".join(f"{end} {times:,}" for end, times in comparison.ends.most_common())
+    found, count, ends = None, 0, collections.Counter()
+    for wrong, text, its_count, its_ends in Search(given, comparison).shares():
+        count, ends = count + its_count, ends + its_ends
+        found = found or (wrong and (wrong, text))
+    if found:
+        keep(given, comparison, *found)
+    shown = ", ".join(f"{end} {times:,}" for end, times in ends.most_common())
     compared = "compared with the reference" if reference else "without a reference"
-    print(f"{given.kind}, seed {given.seed}: {count:,} inputs in {time.monotonic() - start:.0f} s, {compared}; {ends}")
-    return bool(wrong)
+    print(f"{given.kind}, seed {given.seed}: {count:,} inputs in {time.monotonic() - start:.0f} s, {compared}; {shown}")
+    return bool(found)
 
 
 if __name__ == "__main__":

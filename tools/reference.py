@@ -97,6 +97,14 @@ class Reference:
         except self.SessionFault as fault:
             return f"session line {fault.line}: {fault.cause}\n"
 
+    def fault_of(self, text):
+        """The first fault of a session, or None."""
+        try:
+            self.read_session(text, STAGE)
+        except self.SessionFault as fault:
+            return f"session line {fault.line}: {fault.cause}"
+        return None
+
     def fault_of_report(self, text, report):
         """Why a report is no legal history of a session, whose actors may act in any order; None where it is one."""
         try:
