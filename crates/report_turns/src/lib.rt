@@ -1,0 +1,8 @@
+//! The entries of a report as they stand there: whose turn each of them is, and which line of the session it plays.
+#![tactic(auto)]
+
+pub mod entry_turns;
+pub mod misplaced_turns;
+
+pub use entry_turns::{Found, Turn, Turns};
+pub use misplaced_turns::Misplaced;

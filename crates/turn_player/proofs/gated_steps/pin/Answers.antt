@@ -1,0 +1,26 @@
+use Rattle.std.proofs.Common.{rules, ◌≡◌, length, refl}
+use Rattle.call_journal.specs.declared.event.CallerEvent.{CallerEvent}
+use Rattle.call_journal.specs.declared.plan.ListedEvent.{ListedEvent}
+use Rattle.book_progress.specs.EndedLines.{IsOpen}
+use Rattle.book_progress.specs.PlayedPlans as played
+use Rattle.xds_history.specs.Setting.{setting_of}
+use Rattle.xds_book.specs.BookEntries.{IsLaneOf}
+use Rattle.channel_calls.proofs.GatedSteps.{next_step}
+use Rattle.turn_player.proofs.TurnSteps.{call_is_new}
+use Rattle.turn_player.proofs.gated_steps.pin.Goals as goal
+
+pub pin-requires-clause-free : goal.pin-requires-clause-free
+pin-requires-clause-free g c =
+    let own : IsLaneOf c.args.lane c.args.book.now = search (rules, c.if-not-may_go.ensures.own) in
+    let open_now : IsOpen c.args.place.after c.args.book.now.entries = search (rules, c.if-not-may_go.ensures.open) in
+    (call_is_new (setting_of g.J.Job.boot g.J.Job.target) g.J.Job.plan (length g.J.Job.boot.authorities) c.args.lane c.args.place.line c.args.call c.args.book.now c.requires.fits own
+    c.actors-actors.ensures.counted c.actors-actors.ensures.played
+    (next_step g.J.Job.plan c.args.lane 0 c.args.place.line c.args.place.after (ListedEvent.Start c.args.call) (played.caller (CallerEvent.Pin c.args.call)) c.args.book.now.entries c.requires.next (refl, refl) open_now)).free
+
+pub pin-requires-clause-idle : goal.pin-requires-clause-idle
+pin-requires-clause-idle g c =
+    let own : IsLaneOf c.args.lane c.args.book.now = search (rules, c.if-not-may_go.ensures.own) in
+    let open_now : IsOpen c.args.place.after c.args.book.now.entries = search (rules, c.if-not-may_go.ensures.open) in
+    (call_is_new (setting_of g.J.Job.boot g.J.Job.target) g.J.Job.plan (length g.J.Job.boot.authorities) c.args.lane c.args.place.line c.args.call c.args.book.now c.requires.fits own
+    c.actors-actors.ensures.counted c.actors-actors.ensures.played
+    (next_step g.J.Job.plan c.args.lane 0 c.args.place.line c.args.place.after (ListedEvent.Start c.args.call) (played.caller (CallerEvent.Pin c.args.call)) c.args.book.now.entries c.requires.next (refl, refl) open_now)).idle
