@@ -15,6 +15,7 @@ use Rattle.priority_lb.specs.ChildHistories as children
 use Rattle.tree_steps.specs.Reports.{Reports, Child, state_in, locality_in, at_priority, priority_in, priority_count, leaf_children, name_of, child_in, names_of, states_in}
 use Rattle.tree_steps.specs.Reports as steps
 use Rattle.config_assembly.specs.Orders.{Name}
+use Rattle.xds_history.specs.Page.{as_child}
 use Rattle.xds_history.specs.Trees.{localities_of, of_priority, priorities, locality_state, priority_state, child_of, children_of}
 use Rattle.book_trees.specs.TreesKept.{AreReportsOf}
 
@@ -97,23 +98,28 @@ map_map g f (x ∷ xs) = ap (λ ys. g (f x) ∷ ys) (map_map g f xs)
 abbrev named_state : Reports → Child → children.Name × State
 named_state reports child = (name_of child, child_in reports child)
 
+abbrev child_at : (Name → State) → Leaf → ℕ → children.Name × State
+child_at states leaf p = ((leaf.name, p), priority_state states leaf p)
+
 of_leaf : (states : Name → State) (reports : Reports) (leaf : Leaf) → AreReportsOf states reports → IfOk leaf.state IsLawfulEndpoints →
-    map (child_of states leaf) (range_with_len 0 (priorities (localities_of leaf))) ≡ map (named_state reports) (leaf_children leaf)
+    map as_child (map (child_of states leaf) (range_with_len 0 (priorities (localities_of leaf)))) ≡ map (named_state reports) (leaf_children leaf)
 of_leaf states reports leaf agree lawful =
-    ap (λ n. map (child_of states leaf) (range_with_len 0 n)) (priorities_are leaf lawful)
-    ∙ (map_same (child_of states leaf) (λ p. named_state reports (leaf, p)) (range_with_len 0 (priority_count (steps.localities_of leaf))) (λ p. ap (λ (s : State). ((leaf.name, p), s)) (priority_state_is states reports agree leaf p))
-    ∙ sym (map_map (named_state reports) (λ p. (leaf, p)) (range_with_len 0 (priority_count (steps.localities_of leaf)))))
+    map_map as_child (child_of states leaf) (range_with_len 0 (priorities (localities_of leaf)))
+    ∙ (ap (λ n. map (child_at states leaf) (range_with_len 0 n)) (priorities_are leaf lawful)
+    ∙ (map_same (child_at states leaf) (λ p. named_state reports (leaf, p)) (range_with_len 0 (priority_count (steps.localities_of leaf))) (λ p. ap (λ (s : State). ((leaf.name, p), s)) (priority_state_is states reports agree leaf p))
+    ∙ sym (map_map (named_state reports) (λ p. (leaf, p)) (range_with_len 0 (priority_count (steps.localities_of leaf))))))
 
 of_leaves : (states : Name → State) (reports : Reports) (leaves : List Leaf) → AreReportsOf states reports → All (λ l. IfOk l.state IsLawfulEndpoints) leaves →
-    children_of states leaves ≡ map (named_state reports) (steps.children_of leaves)
+    map as_child (children_of states leaves) ≡ map (named_state reports) (steps.children_of leaves)
 of_leaves states reports [] agree lawful = refl
 of_leaves states reports (leaf ∷ leaves) agree lawful =
-    ap (λ cs. cs ++ children_of states leaves) (of_leaf states reports leaf agree (lawful 0 leaf (omega arith)))
+    map-append as_child (map (child_of states leaf) (range_with_len 0 (priorities (localities_of leaf)))) (children_of states leaves)
+    ∙ (ap (λ cs. cs ++ map as_child (children_of states leaves)) (of_leaf states reports leaf agree (lawful 0 leaf (omega arith)))
     ∙ (ap (λ cs. map (named_state reports) (leaf_children leaf) ++ cs) (of_leaves states reports leaves agree (λ k d lt. lawful (suc k) d (omega (arith, lt))))
-    ∙ sym (map-append (named_state reports) (leaf_children leaf) (steps.children_of leaves)))
+    ∙ sym (map-append (named_state reports) (leaf_children leaf) (steps.children_of leaves))))
 
 -- the children of lawful leaves with their states are those of the steps of trees
 pub children_are : (states : Name → State) (reports : Reports) (leaves : List Leaf) → AreReportsOf states reports → All (λ l. IfOk l.state IsLawfulEndpoints) leaves →
-    children_of states leaves ≡ zip (names_of leaves) (states_in reports leaves)
+    map as_child (children_of states leaves) ≡ zip (names_of leaves) (states_in reports leaves)
 children_are states reports leaves agree lawful =
     of_leaves states reports leaves agree lawful ∙ sym (zip_maps name_of (child_in reports) (steps.children_of leaves))

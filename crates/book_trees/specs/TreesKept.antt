@@ -31,7 +31,7 @@ use Rattle.xds_history.specs.declared.page.Tree.{Tree}
 use Rattle.xds_history.specs.declared.page.ClusterTrees.{ClusterTrees}
 use Rattle.xds_history.specs.declared.page.Page.{Page}
 use Rattle.xds_history.specs.Clock.{now, state}
-use Rattle.xds_history.specs.Page.{config_now, trees_now}
+use Rattle.xds_history.specs.Page.{config_now, trees_now, update_of}
 use Rattle.xds_history.specs.Trees.{Present, is_same_kind, leaves_now, updates, chosen_place, trees_of, trees_after}
 use Rattle.xds_history.specs.Pickers.{cluster_view, views}
 use Rattle.xds_history.specs.Pages.{present_after}
@@ -53,7 +53,7 @@ pair_facts trees = record { serving = facts_of trees.serving; waiting = option_m
 -- the children of a tree at its newest entry, with their states
 abbrev pub children_last : List Glimpse → List (children.Name × State)
 children_last [] = []
-children_last (g ∷ gs) = g.children
+children_last (g ∷ gs) = (update_of g).children
 
 -- at its newest entry a tree followed lawful leaves, while addresses had reported these states
 pub record IsGrownTree (reports : Reports) (tree : Tree) : Type 0 where

@@ -1,5 +1,5 @@
 //! What a lane's next step finds in a Book before it is made.
-ghost use Rattle.std.specs.Prelude.{◌≡◌, ◌≢◌, ◌<◌, length, IfSome, IsTrue, None, false};
+ghost use Rattle.std.specs.Prelude.{◌≡◌, ◌≢◌, ◌<◌, ◌↔◌, length, slice_get, IfSome, IsTrue, None, Some, false};
 ghost use Rattle.book_progress.specs.EndedLines.{IsOpen};
 ghost use Rattle.xds_book.specs.BookEntries.{IsLaneOf};
 
@@ -17,7 +17,7 @@ pub struct Difference {
 
 /// Whether the line that gates a step, if one does, has ended.
 fn is_open<J: Job>(book: &Book<J>, after: Option<u32>) -> bool
-    ensures { IsTrue result → IsOpen after book.now.entries }
+    ensures { IsTrue result ↔ IsOpen after book.now.entries }
 {
     match after {
         Some(line) => book.line_done(line),
@@ -29,6 +29,8 @@ fn is_open<J: Job>(book: &Book<J>, after: Option<u32>) -> bool
 /// its step isn't made. It takes no memory.
 pub fn has_to_wait<J: Job>(book: &Book<J>, lane: &Lane<J>, after: Option<u32>) -> bool
     ensures gate { result ≡ false → IsLaneOf lane.now book.now → IsOpen after book.now.entries }
+    ensures lane { IsTrue result → IsLaneOf lane.now book.now }
+    ensures need { IsTrue result → ¬ IsOpen after book.now.entries }
 {
     book.is_of(lane) && !is_open(book, after)
 }
@@ -38,7 +40,9 @@ pub fn has_to_wait<J: Job>(book: &Book<J>, lane: &Lane<J>, after: Option<u32>) -
 pub fn find_difference<J: Job>(book: &Book<J>, lane: &Lane<J>) -> Option<Difference>
     requires actor { lane.now.actor < length book.now.counts }
     ensures own { result ≡ None → IsLaneOf lane.now book.now }
-    ensures differ { IfSome result (λ d. (d.book ≢ d.lane) × (d.lane ≡ lane.now.count)) }
+    ensures differ { IfSome result (λ d. d.book ≢ d.lane) }
+    ensures book { IfSome result (λ d. slice_get book.now.counts lane.now.actor ≡ Some d.book) }
+    ensures lane { IfSome result (λ d. d.lane ≡ lane.now.count) }
 {
     if book.is_of(lane) {
         return None;

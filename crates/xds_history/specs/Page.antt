@@ -1,13 +1,15 @@
 -- A page for each entry: what stands after it. The pages of a history have the newest first.
-use Rattle.std.specs.Prelude.{ℕ, List, [], ◌∷◌, Option, None, option_map}
+use Rattle.std.specs.Prelude.{ℕ, List, [], ◌∷◌, map, Option, None, option_map}
 use Rattle.std.specs.List.{find}
 use Rattle.xc_base.specs.declared.names.Key.{Key}
+use Rattle.xc_base.specs.declared.names.State.{State}
 use Rattle.xc_keys.specs.Keys.{is_key}
 use Rattle.xds_config.specs.declared.config.Config.{Config}
-use Rattle.priority_lb.specs.ChildHistories.{Update}
+use Rattle.priority_lb.specs.ChildHistories.{Name as ChildName, Update}
 use Rattle.graceful_switch.specs.Takeover.{Pair}
 use Rattle.cluster_tree.specs.declared.snapshot.Snapshot.{Snapshot}
 use Rattle.xds_history.specs.declared.page.Watched.{Watched}
+use Rattle.xds_history.specs.declared.page.PriorityState.{PriorityState}
 use Rattle.xds_history.specs.declared.page.Glimpse.{Glimpse}
 use Rattle.config_assembly.specs.Orders.{Name}
 use Rattle.xds_history.specs.declared.page.Tree.{Tree}
@@ -15,9 +17,13 @@ use Rattle.xds_history.specs.declared.page.ClusterTrees.{ClusterTrees}
 use Rattle.xds_history.specs.declared.page.Page.{Page}
 use Rattle.xds_history.specs.Words.{first_some}
 
+-- a priority of a leaf as a child of a balancer, with its state
+abbrev pub as_child : PriorityState → ChildName × State
+as_child p = ((p.leaf, p.priority), p.state)
+
 -- a tree at a driver's entry as an update of its balancer: its priorities with their states, and the time
 abbrev pub update_of : Glimpse → Update
-update_of g = record { children = g.children; now = g.now }
+update_of g = record { children = map as_child g.children; now = g.now }
 
 -- the trees of a cluster, and back
 abbrev pub trees_in : ClusterTrees → Pair Tree

@@ -21,6 +21,7 @@ use Rattle.priority_lb.specs.ChildHistories as children
 use Rattle.priority_lb.specs.ChildLaws.{all_facts, seen_now}
 use Rattle.graceful_switch.specs.Takeover.{Pair, settled}
 use Rattle.config_assembly.specs.Orders.{Name}
+use Rattle.xds_history.specs.declared.page.PriorityState.{PriorityState}
 use Rattle.xds_history.specs.declared.page.Glimpse.{Glimpse}
 use Rattle.xds_history.specs.declared.page.Tree.{Tree}
 use Rattle.xds_history.specs.declared.page.ClusterTrees.{ClusterTrees}
@@ -55,11 +56,11 @@ locality_state state l = joined (map state l.addresses)
 abbrev pub priority_state : (Name → State) → Leaf → ℕ → State
 priority_state state leaf priority = joined (map (locality_state state) (of_priority priority leaf))
 
-abbrev pub child_of : (Name → State) → Leaf → ℕ → children.Name × State
-child_of state leaf priority = ((leaf.name, priority), priority_state state leaf priority)
+abbrev pub child_of : (Name → State) → Leaf → ℕ → PriorityState
+child_of state leaf priority = record { leaf = leaf.name; priority = priority; state = priority_state state leaf priority }
 
 -- the children of a tree, with their states: the priorities of its leaves, in order
-abbrev pub children_of : (Name → State) → List Leaf → List (children.Name × State)
+abbrev pub children_of : (Name → State) → List Leaf → List PriorityState
 children_of state leaves = flat_map (λ leaf. map (child_of state leaf) (range_with_len 0 (priorities (localities_of leaf)))) leaves
 
 -- ---- a tree over its life

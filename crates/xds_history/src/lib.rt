@@ -7,6 +7,6 @@ pub mod page;
 pub mod responses;
 pub mod turns;
 
-pub use page::{ClusterTrees, Glimpse, Mark, Page, Tree, Watched};
+pub use page::{ClusterTrees, Glimpse, Mark, Page, PriorityState, Tree, Watched};
 pub use responses::Told;
 pub use turns::Turn;

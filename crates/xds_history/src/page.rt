@@ -22,11 +22,19 @@ pub struct Watched {
     pub marks: List<Mark>,
 }
 
+/// A priority of a leaf, with its state.
+#[derive(Drop)]
+pub struct PriorityState {
+    pub leaf: Text,
+    pub priority: u32,
+    pub state: State,
+}
+
 /// A tree at a driver's entry: its leaves, and their priorities with their states at that time.
 #[derive(Drop)]
 pub struct Glimpse {
     pub leaves: List<Leaf>,
-    pub children: List<((Text, u32), State)>,
+    pub children: List<PriorityState>,
     pub now: Time,
 }
 
