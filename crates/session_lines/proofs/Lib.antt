@@ -1,5 +1,6 @@
 pub mod FieldLemmas
 mod KeptLemmas
 pub mod LineLemmas
+mod SearchLemmas
 mod TextLemmas
 mod WordLemmas

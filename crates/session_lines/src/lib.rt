@@ -3,6 +3,7 @@
 //! fault.
 #![tactic(auto)]
 
+mod authority_search;
 pub mod cause;
 mod fields;
 mod forms;

@@ -8,6 +8,7 @@ ghost use Rattle.session_lines.specs.KeptSession.{Fits, IsOwned, owner_with};
 ghost use Rattle.session_lines.specs.Works.{GivesLine, bytes, caller_of, call_of, commit, endpoint, gate_of, is_too_many, line_of, line_with, lost, moment, opened, pick, start, word_of, work_of};
 ghost use Rattle.session_lines.specs.Session.{Gives, with_line};
 ghost use Rattle.session_lines.specs.SessionViews.{form_in, words_in};
+ghost use Rattle.xds_bootstrap.specs.Authorities.{AreAuthorities};
 ghost use Rattle.xds_name.specs.NameTexts.{seen};
 
 use crate::cause::{Cause, LineFault, SessionFault};
@@ -145,6 +146,7 @@ impl Reader {
 
     /// A line that opens the stream of an authority.
     fn opened(&self, boot: &Bootstrap, word: &str) -> Result<Work, LineFault>
+        requires lawful { AreAuthorities boot.now.authorities }
         ensures work { GivesLine (λ work. work) result (opened boot.now word.now) }
         ensures fits { IfOk result (λ x. Fits x self.now) }
     {
@@ -154,6 +156,7 @@ impl Reader {
 
     /// A line that loses the stream of an authority.
     fn lost(&self, boot: &Bootstrap, word: &str) -> Result<Work, LineFault>
+        requires lawful { AreAuthorities boot.now.authorities }
         ensures work { GivesLine (λ work. work) result (lost boot.now word.now) }
         ensures fits { IfOk result (λ x. Fits x self.now) }
     {
@@ -163,6 +166,7 @@ impl Reader {
 
     /// A line with data on the stream of an authority.
     fn bytes(&self, boot: &Bootstrap, word: &str, digits: &str) -> Result<Work, LineFault>
+        requires lawful { AreAuthorities boot.now.authorities }
         ensures work { GivesLine (λ work. work) result (bytes boot.now self.now word.now digits.now) }
         ensures fits { IfOk result (λ x. Fits x self.now) }
     {
@@ -266,6 +270,7 @@ impl Reader {
     /// What a line of a form says.
     #[tactic(auto, unfolding(crate::specs::Works::work_of))]
     fn work(&self, head: &Head, form: Form<'_>) -> Result<Work, LineFault>
+        requires lawful { AreAuthorities head.now.boot.authorities }
         ensures work { GivesLine (λ work. work) result (work_of head.now.boot head.now.callers self.now (form_in form.entry)) }
         ensures fits { IfOk result (λ x. Fits x self.now) }
     {
@@ -290,6 +295,7 @@ impl Reader {
         gate: Option<&str>,
         words: Words<'_>,
     ) -> Result<Line, LineFault>
+        requires lawful { AreAuthorities head.now.boot.authorities }
         ensures line { GivesLine (λ x. x) result (line_with head.now.boot head.now.callers self.now (length self.now + 5) (seen gate.entry, words_in words.entry)) }
         ensures fits { IfOk result (λ x. Fits x.work self.now) }
     {
@@ -303,6 +309,7 @@ impl Reader {
     /// What the next line says.
     #[tactic(auto, unfolding(crate::specs::Works::line_of))]
     fn line(&self, head: &Head, line: &[u8]) -> Result<Line, LineFault>
+        requires lawful { AreAuthorities head.now.boot.authorities }
         ensures line { GivesLine (λ x. x) result (line_of head.now.boot head.now.callers self.now (length self.now + 5) line.now) }
         ensures fits { IfOk result (λ x. Fits x.work self.now) }
         ensures few { IfOk result (λ x. length self.now ≤ 199995) }
@@ -345,6 +352,7 @@ impl Reader {
 
 /// Takes the next line. Its fault has its number.
 pub fn take_line(reader: Reader, head: &Head, line: &[u8]) -> Result<Reader, SessionFault>
+    requires lawful { AreAuthorities head.now.boot.authorities }
     ensures { Gives (λ after. after) result (with_line head.now reader (length reader + 5) line.now) }
 {
     let number = reader.next_number();

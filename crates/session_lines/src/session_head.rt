@@ -1,6 +1,7 @@
 //! Lines 1 to 4.
-ghost use Rattle.std.specs.Prelude.{◌≡◌};
+ghost use Rattle.std.specs.Prelude.{◌≡◌, IfOk};
 ghost use Rattle.session_lines.specs.Session.{Gives, boot_of, callers_of, header_of, target_of};
+ghost use Rattle.xds_bootstrap.specs.Authorities.{AreAuthorities};
 
 use crate::cause::{Cause, SessionFault};
 use crate::line_texts::{after, text};
@@ -35,7 +36,8 @@ pub fn header(line: &[u8]) -> Result<(), SessionFault>
 /// The bootstrap of line 2.
 #[tactic(auto, unfolding(crate::specs::Session::boot_of))]
 pub fn boot(alloc: Global, line: &[u8]) -> Result<Bootstrap, SessionFault>
-    ensures { Gives (λ boot. boot) result (boot_of line.now) }
+    ensures gives { Gives (λ boot. boot) result (boot_of line.now) }
+    ensures lawful { IfOk result (λ boot. AreAuthorities boot.authorities) }
 {
     let text = text(line).ok_or(SessionFault::at(2, Cause::Text))?;
     let document = after("boot ", text).ok_or(SessionFault::at(2, Cause::Boot))?;

@@ -4,9 +4,11 @@ ghost use Rattle.xc_base.specs.Addresses.{address_in};
 ghost use Rattle.std.specs.Option.{ok_or};
 ghost use Rattle.session_lines.specs.Works.{GivesLine};
 ghost use Rattle.session_lines.specs.WordValues.{all_digits, authority_in, bytes_in, is_number, number_up_to, number_within, path_in, state_in};
+ghost use Rattle.xds_bootstrap.specs.Authorities.{AreAuthorities};
 ghost use Rattle.xds_name.specs.NameTexts.{seen};
 ghost use Rattle.session_lines.specs.declared.cause.Cause.TheVariants as cause;
 
+use crate::authority_search::authority_named;
 use crate::cause::{Cause, LineFault};
 use crate::line_texts::after;
 use hex::FromHexError;
@@ -17,13 +19,14 @@ use xds_bootstrap::Bootstrap;
 /// The authority of a word: `-` is the default one, and `+` and a name a named one.
 #[tactic(auto, unfolding(crate::specs::WordValues::authority_in))]
 pub fn authority_in(boot: &Bootstrap, word: &str) -> Option<Authority>
+    requires lawful { AreAuthorities boot.now.authorities }
     ensures { result ≡ authority_in boot.now.authorities word.now }
 {
     if word == "-" {
         return Some(Authority::DEFAULT);
     }
     let name = after("+", word)?;
-    boot.authority(name)
+    authority_named(boot, name)
 }
 
 /// A number up to this one.
