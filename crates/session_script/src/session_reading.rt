@@ -3,6 +3,7 @@ ghost use Rattle.std.specs.Prelude.{◌≡◌, ◌+◌, ◌≤◌, [], length, I
 ghost use Rattle.session_lines.specs.Before.{entries};
 ghost use Rattle.session_lines.specs.Lines.{lines_of};
 ghost use Rattle.session_lines.specs.Session.{Gives, head_of, lines_from, next_of, session_of};
+ghost use Rattle.xds_bootstrap.specs.Authorities.{AreAuthorities};
 
 use call_journal::MOST_ENTRIES;
 use session_lines::cause::{Cause, SessionFault};
@@ -29,7 +30,8 @@ fn next(bytes: &[u8]) -> Result<(&[u8], &[u8]), SessionFault>
 /// What lines 1 to 4 say, and what stands after them.
 #[tactic(auto, unfolding(session_lines::specs::Session::head_of))]
 fn head(alloc: Global, bytes: &[u8]) -> Result<(Head, &[u8]), SessionFault>
-    ensures { Gives (λ p. (p.0, lines_of p.1.now)) result (head_of (lines_of bytes.now)) }
+    ensures gives { Gives (λ p. (p.0, lines_of p.1.now)) result (head_of (lines_of bytes.now)) }
+    ensures lawful { IfOk result (λ p. AreAuthorities p.0.boot.authorities) }
 {
     let (line, rest) = next(bytes)?;
     header(line)?;
@@ -49,6 +51,7 @@ fn head(alloc: Global, bytes: &[u8]) -> Result<(Head, &[u8]), SessionFault>
 
 /// The lines from line 5 on.
 fn lines(alloc: Global, head: &Head, bytes: &[u8]) -> Result<Reader, SessionFault>
+    requires lawful { AreAuthorities head.now.boot.authorities }
     ensures { Gives (λ reader. reader) result (lines_from head.now [] 5 (lines_of bytes.now)) }
 {
     let mut reader = Reader::new(alloc);
