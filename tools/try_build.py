@@ -132,7 +132,7 @@ def build(name):
     stamp.unlink(missing_ok=True)
     kept.unlink(missing_ok=True)
     kit = linked_kit.installed_kit()
-    took = "one to three minutes" if kit else "some three minutes"
+    took = "about a minute, or up to three on a busy machine," if kit else "some three minutes"
     print(f"tools/built.sh: {name} is built without proof, which takes {took}", file=sys.stderr)
     fault = try_shortly(kit, kept) if kit else "there is no kit for it"
     if fault:
