@@ -26,13 +26,21 @@ use header_match::Patterns;
 use route_match::RouteAnswer;
 use snapshot_store::Archive;
 use std::alloc::Global;
+use std::hint::spin_loop;
 use std::marker::Model;
 use std::sync::ledger::Ledger;
 use std::sync::{Condvar, Mutex, MutexGuard, Wait};
+use std::time::Duration;
 use xc_base::{Call, CallId, List, Memory, Shared, Steps};
 use xds_book::{Book, Job, Lane, Pinned};
 use xds_bootstrap::Bootstrap;
 use xds_name::Target;
+
+/// How often the lock is tried before a thread sleeps for it.
+const TRIES: u32 = 400;
+
+/// For how many seconds a thread sleeps at most before it looks again whether the line for which it waits has ended.
+const LONGEST_SLEEP: u64 = 3_600;
 
 /// A Book of which many threads make the steps, each with the lane of its actor. It ends by the first call that finds a lane
 /// that isn't of the Book, or no memory: each call that waits then, and each later one, is answered Ended with that fault.
@@ -204,7 +212,7 @@ impl<J: Job> Channel<J> {
     pub fn run_out<R: Wait>(&self, rt: &R) -> ChanFault
         ensures { (count : CountValue) → IsCauseAt count result }
     {
-        let mut locked = self.locked.lock(rt);
+        let mut locked = self.lock(rt);
         let fault = locked.run_out();
         self.leave(locked);
         fault
@@ -220,10 +228,31 @@ impl<J: Job> Channel<J> {
     ) -> MutexGuard<'_, Locked<J>>
         ensures { IsFree lane.now after (mutex_guard_value result) }
     {
-        let mut locked = self.locked.lock(rt);
+        let mut locked = self.lock(rt);
         locked.note(lane, after);
-        self.told
-            .wait_while(rt, locked, |locked| locked.holds_back(lane, after))
+        for _ in rt.forever() {
+            if !locked.holds_back(lane, after) {
+                return locked;
+            }
+            let told = self.told.notifications();
+            drop(locked);
+            self.told
+                .sleep(rt, told, Duration::from_secs(LONGEST_SLEEP));
+            locked = self.lock(rt);
+        }
+        locked
+    }
+
+    /// Takes the lock. It is tried for some microseconds before the thread sleeps for it: a step holds it for about one, a
+    /// thread that sleeps takes many to come back, and while one sleeps, others that find the lock taken sleep too.
+    fn lock<R: Wait>(&self, rt: &R) -> MutexGuard<'_, Locked<J>> {
+        for _ in 0..TRIES {
+            if let Some(locked) = self.locked.try_lock() {
+                return locked;
+            }
+            spin_loop();
+        }
+        self.locked.lock(rt)
     }
 
     /// Lets the lock go, and tells those who wait what they want to know.
