@@ -1,13 +1,15 @@
-"""tests/threaded_sessions.py PROGRAM [REFERENCE]: plays sessions as they are, so that on threads their actors act in any order.
+"""tests/threaded_sessions.py PROGRAM JUDGE [REFERENCE]: plays sessions as they are, so that on threads their actors act in any order.
 
 PROGRAM is xds_replay, which is called with the word `run`. It plays each session of examples/ five times. In each report
 the entries of each actor are those of the stored report in their order: the same lines with the same events. Answers aren't
 compared, since they depend on the order of the actors, and holds neither, since a start that finds no snapshot has none.
 
-REFERENCE is the folder of a reference, which makes random sessions of up to sixteen callers, and tells whether a report is a
-legal history of its session, in whatever order the actors acted. Those that aren't refused and have lines of several
-actors are played, 200 or as many as the variable SESSIONS says. Each report is legal. Of 1,000 or more at least 30 in 100
-stand in another order than the session's lines, since else hardly anything but that order would be judged.
+JUDGE is xds_judge, which finds each report legal, whatever order its actors acted in.
+
+REFERENCE is the folder of a reference, which makes random sessions of up to sixteen callers, and judges reports too. Those
+that aren't refused and have lines of several actors are played, 200 or as many as the variable SESSIONS says. Each report
+is legal by both. Of 1,000 or more at least 30 in 100 stand in another order than the session's lines, since else hardly
+anything but that order would be judged.
 
 The first three reports that aren't right are kept with their sessions, since at the next run they may be.
 """
@@ -75,6 +77,21 @@ def played(program, name, text):
         raise SystemExit(f"{name}: no end in {late.timeout:.0f} s") from None
 
 
+class Judge:
+    """The program that judges reports, and the files that it reads."""
+
+    def __init__(self, program, room):
+        self.program, self.session, self.report = program, room / "session", room / "report"
+
+    def fault_of_report(self, text, report):
+        """The first mistake of a report, or None where it is legal."""
+        self.session.write_bytes(text)
+        self.report.write_text(report)
+        words = [self.program, self.session, self.report]
+        ran = subprocess.run(words, capture_output=True, text=True, timeout=60, check=False)
+        return f"by the judge: {ran.stderr.strip()}" if ran.returncode else None
+
+
 class Count:
     """Counts reports that are right and that aren't, and keeps the first three of these with their sessions."""
 
@@ -94,15 +111,16 @@ class Count:
             print(f"{name}: {fault}; {folder} has the session and the report")
 
 
-def play_examples(program):
-    """Plays the examples, and answers whether an actor did anything else than in the stored report."""
+def play_examples(program, judge):
+    """Plays the examples, and answers whether an actor did anything else than in the stored report, or one isn't legal."""
     count = Count()
     for path in sorted((HERE.parent / "examples").glob("*.session")):
         text, wanted = path.read_bytes(), by_actor(path.with_suffix(".expected").read_text())
         for _ in range(TIMES):
             report = played(program, path.stem, text)
-            count.add(path.stem, text, report, fault_of_actors(by_actor(report), wanted))
-    print(f"{count.good} plays of examples in the order of each actor, {count.bad} not")
+            fault = fault_of_actors(by_actor(report), wanted) or judge.fault_of_report(text, report)
+            count.add(path.stem, text, report, fault)
+    print(f"{count.good} plays of examples legal and in the order of each actor, {count.bad} not")
     return count.bad > 0
 
 
@@ -125,13 +143,13 @@ def random_sessions(reference, count):
             yield number, text, report
 
 
-def judge(program, reference, sessions):
+def play_random(program, judge, reference, sessions):
     """Plays so many random sessions, and answers whether a report isn't legal, or too few are in another order."""
     count, other, late = Count(), 0, 0
     for number, text, in_order in random_sessions(reference, sessions):
         name = f"session {number}"
         report = played(program, name, text)
-        fault = reference.fault_of_report(text, report)
+        fault = reference.fault_of_report(text, report) or judge.fault_of_report(text, report)
         count.add(name, text, report, fault)
         other += fault is None and order_of(report) != order_of(in_order)
         late += late_holds(report)
@@ -143,10 +161,12 @@ def judge(program, reference, sessions):
 
 
 def main():
-    program = pathlib.Path(sys.argv[1]).resolve()
-    is_bad = play_examples(program)
-    if len(sys.argv) > 2:
-        is_bad |= judge(program, Reference(sys.argv[2]), int(os.environ.get("SESSIONS") or SESSIONS))
+    program, judging = (pathlib.Path(it).resolve() for it in sys.argv[1:3])
+    with tempfile.TemporaryDirectory(prefix="play_on_threads_") as room:
+        judge = Judge(judging, pathlib.Path(room))
+        is_bad = play_examples(program, judge)
+        if len(sys.argv) > 3:
+            is_bad |= play_random(program, judge, Reference(sys.argv[3]), int(os.environ.get("SESSIONS") or SESSIONS))
     return is_bad
 
 

@@ -6,7 +6,7 @@ another, and nothing is built anew.
 
 Kinds:
 
-    memory     a call of malloc, realloc, calloc or aligned_alloc, by any thread, answers that there is no memory
+    memory     a call of malloc, realloc, calloc or aligned_alloc, by any thread, answers that there is no memory, with ENOMEM
     read       a read of standard input fails with EIO
     write      a write to standard output fails with EIO
     interrupt  a read or write of these two is broken off with EINTR before it moves a byte
@@ -30,7 +30,8 @@ TELL_SYSCALLS, FOLLOW_THREADS, KILL_WITH_US = 1, 8, 0x100000
 ANY_CHILD, ANY_THREAD = -1, 0x40000000
 SYSCALL_STOP = signal.SIGTRAP | 0x80
 READ, WRITE, CLONE, CLONE3 = 0, 1, 56, 435
-EIO, EINTR, EAGAIN = 5, 4, 11
+EIO, EINTR, EAGAIN, ENOMEM = 5, 4, 11, 12
+LOAD_FROM_TABLE = b"\x48\x8b\x05"  # (mov rax, [rip + ..])
 BREAK, ENDBR, PUSH_RBP = b"\xcc", b"\xf3\x0f\x1e\xfa", b"\x55"
 ALLOCATORS = ("malloc", "realloc", "calloc", "aligned_alloc", "posix_memalign")
 
@@ -105,6 +106,7 @@ class Tracee:
 
     def __init__(self, command, files, fault):
         self.fault, self.count, self.places, self.inside, self.is_past = fault, 0, {}, {}, False
+        self.errno_offset = None
         self.pid = os.fork()
         if self.pid == 0:
             self.become(command, files)
@@ -150,14 +152,26 @@ class Tracee:
         own, entry = symbols(program)
         base = self.bases()[program]
         self.run_to(base + own.get("main", entry))
-        places = [base + own[name] for name in ALLOCATORS if name in own]
+        names = own
         if "malloc" not in own:
             library = next(it for it in self.bases() if os.path.basename(it).startswith("libc.so"))
-            names, _ = symbols(library)
-            places = [self.bases()[library] + names[name] for name in ALLOCATORS if name in names]
-        for place in places:
+            (names, _), base = symbols(library), self.bases()[library]
+        if "__errno_location" in names:
+            self.errno_offset = self.offset_of_errno(base + names["__errno_location"])
+        for place in (base + names[name] for name in ALLOCATORS if name in names):
             self.places[place] = self.peek(place, 4)
             self.poke(place, BREAK)
+
+    def offset_of_errno(self, place):
+        """How far a thread's `errno` stands from its own block, which its register fs names: the function that tells where it
+        stands loads this number from a table."""
+        code = self.peek(place, 16)
+        at = code.find(LOAD_FROM_TABLE)
+        if at < 0:
+            return None
+        behind = at + len(LOAD_FROM_TABLE)
+        entry = place + behind + 4 + int.from_bytes(code[behind:behind + 4], "little", signed=True)
+        return int.from_bytes(self.peek(entry, 8), "little", signed=True)
 
     def run_to(self, place):
         first = self.peek(place, 1)
@@ -213,6 +227,8 @@ class Tracee:
             return
         self.count += 1
         if self.fault.hits(self.count):
+            if self.errno_offset is not None:
+                self.poke(registers.fs_base + self.errno_offset, ENOMEM.to_bytes(4, "little"))
             registers.rax, registers.rip = 0, int.from_bytes(self.peek(registers.rsp, 8), "little")
             registers.rsp += 8
         elif self.places[place] == ENDBR:
