@@ -1,0 +1,153 @@
+//! A report of a session is judged.
+ghost use Rattle.std.specs.Prelude.{◌≡◌, ◌<◌, None, Ok};
+ghost use Rattle.session_plan.specs.PlanOfSession.{plan_of};
+ghost use Rattle.session_plan.specs.ReadablePayloads.{is_response};
+ghost use Rattle.report_compare.specs.LegalReports.{IsReportOf};
+ghost use Rattle.session_player.specs.Stages.{IsOfSession};
+ghost use Rattle.session_shape.specs.SessionShape.{IsWellFormed};
+
+use crate::named_turns::{Outcome, play_report};
+use crate::session_book::begin_book;
+use crate::trials::Trial;
+use closed_book::ClosedBook;
+use cluster_tree::Snapshot;
+use header_match::Patterns;
+use report_compare::{Mistake, PlayedPart, compare, compare_until};
+use session_lines::Session;
+use session_plan::plan_session;
+use snapshot_store::Archive;
+use std::alloc::{AllocError, Global};
+use std::marker::Brand;
+use std::sync::Wait;
+use std::sync::ledger::{Blank, Ledger};
+use xc_base::{List, Memory, Shared};
+use xds_book::{Book, Job, Lane};
+
+/// The mistake of a report whose turns don't play all that is listed, where this Book was played.
+fn judge_stopped<J: Job>(
+    trial: Trial<'_>,
+    book: Book<J>,
+    mistake: Mistake,
+) -> Result<Mistake, Memory> {
+    let (journal, history) = book.finish(List::new(trial.alloc));
+    let part = PlayedPart {
+        session: trial.session,
+        journal: &journal,
+        history: &history,
+    };
+    compare_until(trial.alloc, part, trial.report, mistake)
+}
+
+/// Compares a report with what was played, where its turns play all that is listed. The last sweep is made here, whether or
+/// not the report has it.
+fn judge_whole<J: Job, L: Ledger, R: Wait + Sync>(
+    rt: &R,
+    blank: Blank,
+    trial: Trial<'_>,
+    book: Book<J>,
+    lanes: Vec<Lane<J>>,
+) -> Result<Option<Mistake>, Memory>
+    requires name { blank.name ≡ L.name }
+    requires parts { blank.parts ≡ L.parts }
+    requires some { 0 < blank.parts }
+    requires of { IsOfSession J.plan J.boot J.target trial.session.now trial.plan.actors }
+    ensures legal { result ≡ Ok None → IsReportOf trial.entry.session.now trial.entry.report.now }
+{
+    let Trial {
+        alloc,
+        session,
+        plan,
+        report,
+    } = trial;
+    let mut lanes = lanes;
+    if lanes.is_empty() {
+        return Err(AllocError);
+    }
+    let driver = lanes.remove(0);
+    if driver.actor() != 0 {
+        return Err(AllocError);
+    }
+    let closed = ClosedBook {
+        book,
+        lanes: List::from_vec(lanes),
+        plan,
+    };
+    let Ok(played) = closed.report::<R, L>(rt, blank, driver) else {
+        return Err(AllocError);
+    };
+    let part = PlayedPart {
+        session,
+        journal: &played.journal,
+        history: &played.history,
+    };
+    compare(alloc, part, report)
+}
+
+/// Judges a report on a Book of the session.
+fn judge_by<J: Job, L: Ledger, R: Wait + Sync, P: Patterns>(
+    rt: &R,
+    blank: Blank,
+    trial: Trial<'_>,
+    archive: Shared<Archive<Snapshot>>,
+    patterns: &mut P,
+) -> Result<Option<Mistake>, Memory>
+    requires name { blank.name ≡ L.name }
+    requires parts { blank.parts ≡ L.parts }
+    requires some { 0 < blank.parts }
+    requires of { IsOfSession J.plan J.boot J.target trial.session.now trial.plan.actors }
+    requires archive { archive ≡ J.archive }
+    ensures legal { result ≡ Ok None → IsReportOf trial.entry.session.now trial.entry.report.now }
+{
+    let (book, lanes) = begin_book::<J>(trial.alloc, trial.session, &trial.plan, archive)?;
+    let mut book = book;
+    let outcome = play_report::<J, Brand, R, P>(
+        rt,
+        Blank::new(1),
+        &trial,
+        &mut book,
+        lanes,
+        patterns,
+    )?;
+    match outcome {
+        Outcome::Whole(lanes) => judge_whole::<J, L, R>(rt, blank, trial, book, lanes),
+        Outcome::Stopped(mistake) => Ok(Some(judge_stopped(trial, book, mistake)?)),
+    }
+}
+
+/// Judges a report of a session whose plan is made.
+fn judge_planned<R: Wait + Sync, P: Patterns>(
+    rt: &R,
+    trial: Trial<'_>,
+    archive: Shared<Archive<Snapshot>>,
+    patterns: &mut P,
+) -> Result<Option<Mistake>, Memory>
+    requires formed { IsWellFormed trial.session.now }
+    requires plan { trial.plan.actors ≡ plan_of is_response trial.session.now }
+    ensures legal { result ≡ Ok None → IsReportOf trial.entry.session.now trial.entry.report.now }
+{
+    judge_by::<Brand, Brand, R, P>(rt, Blank::new(1), trial, archive, patterns)
+}
+
+/// Judges a report of a session: the turns that its lines name are played on one thread, in their order, with the pattern
+/// texts refused that it lists, and what was played is compared with it. None is that it is the report of a legal history of
+/// the session; else it is the first mistake. It fails for want of memory.
+pub fn judge_session<R: Wait + Sync, P: Patterns>(
+    rt: &R,
+    alloc: Global,
+    session: &Session,
+    report: &[u8],
+    patterns: &mut P,
+) -> Result<Option<Mistake>, Memory>
+    requires formed { IsWellFormed session.now }
+    ensures legal { result ≡ Ok None → IsReportOf session.now report.now }
+{
+    let plan = plan_session(alloc, session)?;
+    let archive = Shared::new(alloc, Archive::new(alloc)?)?;
+    let trial = Trial {
+        alloc,
+        session,
+        plan,
+        report,
+    };
+    judge_planned(rt, trial, archive, patterns)
+}
