@@ -27,13 +27,16 @@ newer() {
 
 # prove: proves each crate, lowest first, and builds the program.
 prove() {
-  local count=${#crates[@]} at=0 crate words
+  local count=${#crates[@]} at=0 place crate words
   echo "tools/built.sh: $count crates are proved, at about three minutes each where nothing is proved yet" >&2
   for crate in "${crates[@]}"; do
     at=$((at + 1))
     echo "tools/built.sh: crate $at of $count, $crate" >&2
     if [ "$crate" = "$name" ]; then
       mapfile -t words <"crates/$crate/args"
+      for place in "${!words[@]}"; do  # (a file of its folder data/ is named from where it is run here)
+        [ ! -e "crates/$crate/data/${words[place]}" ] || words[place]=data/${words[place]}
+      done
       (cd "crates/$crate" && rt run -- "${words[@]}" <stdin >/dev/null) || return 1
     else
       (cd "crates/$crate" && rt lib) >&2 || return 1

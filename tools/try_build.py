@@ -67,9 +67,10 @@ def tell_time(start):
 
 
 def words_of(name):
-    """The words that a program is given where it is tried."""
-    file = crates.HOME / "crates" / name / "args"
-    return file.read_text().split() if file.exists() else []
+    """The words that a program is given where it is tried. Of a file in its folder data/ the whole path is given."""
+    folder = crates.HOME / "crates" / name
+    words = (folder / "args").read_text().split() if (folder / "args").exists() else []
+    return [str(folder / "data" / it) if (folder / "data" / it).exists() else it for it in words]
 
 
 def try_once(rt, folder, kept):
