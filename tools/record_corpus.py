@@ -1,8 +1,8 @@
 """tools/record_corpus.py REFERENCE: records tests/corpus/, what the reference program in that folder answers.
 
 400 sessions with their reports (300 of at most 60 lines, 100 longer ones), 300 resources with their values or
-reasons, and 200 damaged sessions with their first faults. The checks compare with them everywhere, and with a
-reference beside they go on to random ones.
+reasons, 200 damaged sessions with their first faults, and 60 damaged reports, each legal or not. The checks compare with
+them everywhere, and with a reference beside they go on to random ones.
 """
 
 import pathlib
@@ -13,6 +13,7 @@ sys.path[:0] = [str(TESTS), str(TESTS.parent / "tools")]
 import compare_resources  # noqa: E402
 import compare_sessions  # noqa: E402
 import corpus  # noqa: E402
+import judged_reports  # noqa: E402
 from reference import Reference  # noqa: E402
 
 SHORT, LONG, MOST_LINES = 300, 100, 60
@@ -48,7 +49,8 @@ def main():
     if len(sys.argv) != 2:
         raise SystemExit(__doc__)
     reference = Reference(sys.argv[1])
-    for name, rows in (("histories", histories), ("resources", resources), ("sessions", damaged)):
+    kinds = ("histories", histories), ("resources", resources), ("sessions", damaged), ("judged", judged_reports.recorded)
+    for name, rows in kinds:
         found = list(rows(reference))
         print(f"{name}: {len(found)} rows, {corpus.write(name, found):,} bytes")
 
