@@ -1,6 +1,5 @@
 //! The bytes of files.
 use crate::endings::Ending;
-use std::alloc::Global;
 use std::io::Read;
 use std::rt::Files;
 use std::{fs, io};

@@ -8,7 +8,6 @@ use endings::{Ending, USAGE};
 use file_bytes::read_file;
 use header_match::RegexPatterns;
 use report_judge::judge;
-use std::alloc::Global;
 use std::process::ExitCode;
 use std::rt::{Env, Files};
 use std::sync::Wait;
