@@ -12,28 +12,20 @@ if ! folder=$(python3 tools/reference.py 2>&1); then
 fi
 . tests/running.sh
 
-# ends NAME STATUS MESSAGE WORD..: what the program says on standard error, and nothing on standard output.
-ends() {
-  local name=$1 status=$2
-  echo "$3" >"$room/message"
-  shift 3
-  ran "$name" "$status" /dev/null "$room/message" "$@"
-}
-
 usage='usage: xds_judge SESSION REPORT'
 session=examples/first_path.session report=examples/first_path.expected
 ran 'a legal report' 0 /dev/null /dev/null "$session" "$report"
 ran 'help' 0 <(echo "$usage") /dev/null --help
 ran 'short help' 0 <(echo "$usage") /dev/null -h
-ends 'no word' 2 "$usage"
-ends 'one word' 2 "$usage" "$session"
-ends 'three words' 2 "$usage" "$session" "$report" "$report"
-ends 'a word that is no text' 2 "$usage" "$session" $'\xff'
-ends 'no session' 3 'xds_judge: session line 1: header' "$report" "$report"
-ends 'no such session' 4 'xds_judge: read fault' examples/none.session "$report"
-ends 'no such report' 4 'xds_judge: read fault' "$session" examples/none.expected
-ends 'a folder' 4 'xds_judge: read fault' "$session" examples
-ends 'an empty report' 1 'line 1: nothing, a legal one has: xds-report 1' "$session" /dev/null
+refused 'no word' 2 "$usage"
+refused 'one word' 2 "$usage" "$session"
+refused 'three words' 2 "$usage" "$session" "$report" "$report"
+refused 'a word that is no text' 2 "$usage" "$session" $'\xff'
+refused 'no session' 3 'xds_judge: session line 1: header' "$report" "$report"
+refused 'no such session' 4 'xds_judge: read fault' examples/none.session "$report"
+refused 'no such report' 4 'xds_judge: read fault' "$session" examples/none.expected
+refused 'a folder' 4 'xds_judge: read fault' "$session" examples
+refused 'an empty report' 1 'line 1: nothing, a legal one has: xds-report 1' "$session" /dev/null
 told judge_reports
 
 python3 tests/judged_reports.py "$program" "$replay" ${folder:+"$folder"} | sed 's/^/judge_reports: /'

@@ -5,14 +5,6 @@ cd "$(dirname "$0")/.."
 program=$(bash tools/built.sh)
 . tests/running.sh
 
-# refused NAME STATUS MESSAGE WORD..
-refused() {
-  local name=$1 status=$2
-  echo "$3" >"$room/message"
-  shift 3
-  ran "$name" "$status" /dev/null "$room/message" "$@"
-}
-
 # at NAME LINE CAUSE
 at() {
   refused "$1" 3 "xds_replay: session line $2: $3" run

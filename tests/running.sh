@@ -19,6 +19,15 @@ ran() {
   diff "$err" "$room/err" | head -5 || true
 }
 
+# refused NAME STATUS MESSAGE WORD..: runs the program with these words; it says the message on standard error, and writes
+# nothing to standard output.
+refused() {
+  local name=$1 status=$2
+  echo "$3" >"$room/message"
+  shift 3
+  ran "$name" "$status" /dev/null "$room/message" "$@"
+}
+
 # told CHECK: how many runs were as wanted; the status is 1 where one wasn't.
 told() {
   echo "$1: $good good, $bad bad"

@@ -24,6 +24,7 @@ import tempfile
 HERE = pathlib.Path(__file__).resolve().parent
 sys.path[:0] = [str(HERE), str(HERE.parent / "tools")]
 from compare_histories import told  # noqa: E402
+from judged_reports import Judge  # noqa: E402
 from reference import Reference  # noqa: E402
 
 TIMES, SESSIONS = 5, 200
@@ -77,19 +78,10 @@ def played(program, name, text):
         raise SystemExit(f"{name}: no end in {late.timeout:.0f} s") from None
 
 
-class Judge:
-    """The program that judges reports, and the files that it reads."""
-
-    def __init__(self, program, room):
-        self.program, self.session, self.report = program, room / "session", room / "report"
-
-    def fault_of_report(self, text, report):
-        """The first mistake of a report, or None where it is legal."""
-        self.session.write_bytes(text)
-        self.report.write_text(report)
-        words = [self.program, self.session, self.report]
-        ran = subprocess.run(words, capture_output=True, text=True, timeout=60, check=False)
-        return f"by the judge: {ran.stderr.strip()}" if ran.returncode else None
+def mistake_of(judge, text, report):
+    """The first mistake of a report by the judge, or None where it is legal."""
+    status, said = judge.judged(text, report)
+    return f"by the judge: {said.strip()}" if status else None
 
 
 class Count:
@@ -118,7 +110,7 @@ def play_examples(program, judge):
         text, wanted = path.read_bytes(), by_actor(path.with_suffix(".expected").read_text())
         for _ in range(TIMES):
             report = played(program, path.stem, text)
-            fault = fault_of_actors(by_actor(report), wanted) or judge.fault_of_report(text, report)
+            fault = fault_of_actors(by_actor(report), wanted) or mistake_of(judge, text, report)
             count.add(path.stem, text, report, fault)
     print(f"{count.good} plays of examples legal and in the order of each actor, {count.bad} not")
     return count.bad > 0
@@ -149,7 +141,7 @@ def play_random(program, judge, reference, sessions):
     for number, text, in_order in random_sessions(reference, sessions):
         name = f"session {number}"
         report = played(program, name, text)
-        fault = reference.fault_of_report(text, report) or judge.fault_of_report(text, report)
+        fault = reference.fault_of_report(text, report) or mistake_of(judge, text, report)
         count.add(name, text, report, fault)
         other += fault is None and order_of(report) != order_of(in_order)
         late += late_holds(report)

@@ -16,9 +16,6 @@ use std::{env, io};
 /// A session has no more bytes; one more is read, so that it is seen that there are more.
 const MOST_OF_SESSION: u64 = 67_108_865;
 
-/// Of a report so many bytes are read at most. Where there are as many, it counts as one for which there is no memory.
-const MOST_OF_REPORT: u64 = 4_294_967_295;
-
 /// Why there are no words: one of them isn't text, or there was no memory.
 fn unread(fault: &io::Error) -> Ending {
     match fault.kind() {
@@ -34,17 +31,14 @@ fn words<R: Env + AllocGlobal>(rt: &R) -> Result<Vec<String>, Ending> {
     args.collect(rt.alloc()).map_err(|_| Ending::Memory)
 }
 
-/// Judges a report in a file by the session of another one.
+/// Judges a report in a file by the session of another one. The report's file is read to its end.
 fn judge_files<R: Files + AllocGlobal + Wait + Sync>(
     rt: &R,
     session: &str,
     report: &str,
 ) -> Result<Ending, Ending> {
     let session = read_file(rt, session, MOST_OF_SESSION)?;
-    let report = read_file(rt, report, MOST_OF_REPORT)?;
-    if report.len() as u64 == MOST_OF_REPORT {
-        return Err(Ending::Memory);
-    }
+    let report = read_file(rt, report, u64::MAX)?;
     let mut patterns = RegexPatterns::new(rt.alloc());
     Ok(Ending::Judged(judge(rt.alloc(), rt, &session, &report, &mut patterns)))
 }
