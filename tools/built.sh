@@ -28,7 +28,7 @@ newer() {
 # prove: proves each crate, lowest first, and builds the program.
 prove() {
   local count=${#crates[@]} at=0 place crate words
-  echo "tools/built.sh: $count crates are proved, at about three minutes each where nothing is proved yet" >&2
+  echo "tools/built.sh: $count crates are proved, at one to three minutes each where nothing is proved yet" >&2
   for crate in "${crates[@]}"; do
     at=$((at + 1))
     echo "tools/built.sh: crate $at of $count, $crate" >&2

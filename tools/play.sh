@@ -18,7 +18,7 @@ list_examples() {
 usage() {
   echo "usage: bash tools/play.sh [--proved] NAME|FILE|-"
   echo "plays an example, the session of a file or one from standard input, and shows its report. --proved proves the"
-  echo "program before, about three minutes a crate where nothing is proved yet. The examples are:"
+  echo "program before, one to three minutes a crate where nothing is proved yet. The examples are:"
   list_examples
 }
 

@@ -1,7 +1,6 @@
 -- What a lane's next listed event finds in the Book.
-use Rattle.std.proofs.Common.{◌≡◌, ◌≢◌, ◌<◌, ◌≤◌, ℕ, ◌+◌, Bool, false, List, length, Option, Some, None, refl, sym, ap, ◌∙◌, subst, arith}
-use Rattle.std.specs.Prelude.{IsTrue, slice_get}
-use Rattle.std.proofs.lemmas.Option.{slice_get_within}
+use Rattle.std.proofs.Common.{◌≡◌, ◌≢◌, ◌<◌, ◌≤◌, ℕ, Bool, false, List, length, Option, Some, None, refl, sym, ap, ◌∙◌, subst, arith}
+use Rattle.std.specs.Prelude.{IsTrue}
 use Rattle.xc_base.specs.declared.call.Call.{Call}
 use Rattle.call_journal.specs.declared.event.CallerEvent.{CallerEvent}
 use Rattle.call_journal.specs.declared.event.DriverEvent.{DriverEvent}
@@ -23,9 +22,8 @@ use Rattle.planned_calls.proofs.CallProofs.{next_hold_is_up, next_start_is_new}
 use Rattle.planned_calls.proofs.RoomProofs.{next_has_room}
 use Rattle.xds_book.specs.declared.book_faults.BookFault.{BookFault}
 use Rattle.xds_book.specs.BookEntries.{IsFull, IsKnownTo}
-use Rattle.xds_book.specs.BookKept.{HasActors}
 use Rattle.xds_book.specs.BookViews.{BookView, LaneView}
-use Rattle.channel_calls.specs.ChannelPlans.{HasActor, HasChannelPlan, HasListed, IsChannelPlan, IsDrivable, IsShortIn}
+use Rattle.channel_calls.specs.ChannelPlans.{HasChannelPlan, HasListed, IsShortIn}
 use Rattle.channel_calls.specs.declared.channel_faults.First.{First}
 use Rattle.channel_calls.specs.LockedBooks.{IsFree, IsOpenTo, LockedView}
 

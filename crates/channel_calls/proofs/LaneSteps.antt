@@ -1,8 +1,7 @@
 -- What the steps of a Book make of a lane.
-use Rattle.std.proofs.Common.{◌≡◌, ℕ, ◌+◌, ◌-◌, List, [], ◌∷◌, ◌++◌, length, Option, Some, None, Result, Ok, Err, refl, sym, ap, ◌∙◌, subst, arith, append-nil, inl, inr}
-use Rattle.std.specs.Prelude.{option_map, IsTrue}
+use Rattle.std.proofs.Common.{◌≡◌, ℕ, List, [], ◌∷◌, Option, Some, None, refl, sym, ap, ◌∙◌, subst, append-nil, inl}
+use Rattle.std.specs.Prelude.{option_map}
 use Rattle.xc_base.specs.declared.call.Call.{Call}
-use Rattle.xc_base.specs.declared.names.CallId.{CallId}
 use Rattle.xc_base.specs.declared.names.Kind.{Kind}
 use Rattle.cluster_tree.specs.declared.snapshot.Snapshot.{Snapshot}
 use Rattle.resource_check.specs.declared.delivery.Prepared.{Prepared}
@@ -10,10 +9,7 @@ use Rattle.call_journal.specs.declared.event.CallerEvent.{CallerEvent}
 use Rattle.call_journal.specs.declared.event.DriverEvent.{DriverEvent}
 use Rattle.call_journal.specs.declared.reply.CallerReply.{CallerReply}
 use Rattle.call_journal.specs.declared.entry.What.{What}
-use Rattle.call_journal.specs.declared.entry.Entry.{Entry}
 use Rattle.call_journal.specs.declared.plan.Count.{Count}
-use Rattle.call_journal.specs.declared.plan.Listed.{Listed}
-use Rattle.call_journal.specs.declared.plan.ListedEvent.{ListedEvent}
 use Rattle.check_steps.specs.Asking.{IsSubsequence}
 use Rattle.config_assembly.specs.Orders.{Name}
 use Rattle.xds_history.specs.Setting.{Setting}
@@ -21,13 +17,11 @@ use Rattle.xds_history.specs.Page.{latest, latest_number}
 use Rattle.xds_history.specs.Pages.{pages}
 use Rattle.xds_history.specs.Responses.{answered_kind}
 use Rattle.xds_history.specs.Right.{pin_reply}
-use Rattle.book_progress.specs.ActorCounts.{count_after, with_ended, with_pin, without_pin}
-use Rattle.book_progress.specs.PlayedPlans.{IsListed}
+use Rattle.book_progress.specs.ActorCounts.{count_after}
 use Rattle.book_hearing.specs.HeardEvents.{texts_of}
 use Rattle.xds_book.specs.BookEntries.{Drives, IsTokenOf, answered_call, lane_after, texts_for}
 use Rattle.xds_book.specs.BookViews.{BookView, LaneView, PinnedView}
-use Rattle.channel_calls.specs.ChannelPlans.{HasListed}
-use Rattle.channel_calls.specs.LockedBooks.{IsAfterEvent, IsAfterPin, lane_ended, lane_held, lane_pinned}
+use Rattle.channel_calls.specs.LockedBooks.{IsAfterEvent, IsAfterPin}
 
 abbrev lane_with : LaneView → Count → List Name → LaneView
 lane_with lane count texts = record { actor = lane.actor; count = count; refused = texts }

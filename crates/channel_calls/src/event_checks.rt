@@ -9,8 +9,8 @@ use resource_check::{Prepared, prepare};
 use std::alloc::Global;
 use xc_base::Memory;
 
-/// A response, read and checked; None for any other event.
-pub(crate) fn prepared_event<P: Patterns>(
+/// A response, read and checked; None for any other event. It fails for want of memory alone.
+pub fn prepared_event<P: Patterns>(
     alloc: Global,
     event: &DriverEvent,
     patterns: &mut P,

@@ -4,7 +4,7 @@
 
 pub mod call_gate;
 pub mod channel_faults;
-mod event_checks;
+pub mod event_checks;
 mod line_waits;
 mod locked_book;
 pub mod locked_channel;

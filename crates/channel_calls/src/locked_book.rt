@@ -14,7 +14,7 @@ ghost use Rattle.channel_calls.specs.LockedBooks.{IsAfterEvent, IsAfterPin, IsFr
 use crate::channel_faults::{ChanFault, First};
 use crate::line_waits::Waits;
 use call_journal::DriverEvent;
-use lane_checks::{Difference, find_difference, has_to_wait};
+use lane_checks::{Difference, GatedLine, find_difference, has_to_wait};
 use resource_check::Prepared;
 use route_match::RouteAnswer;
 use std::alloc::Global;
@@ -23,13 +23,6 @@ use std::sync::Wait;
 use std::sync::ledger::Ledger;
 use xc_base::{Call, CallId, Memory, Shared, Steps};
 use xds_book::{Book, BookFault, Job, Lane, Pinned};
-
-/// A line, and the line that has to end before it.
-#[derive(Clone, Copy)]
-pub(crate) struct Place {
-    pub(crate) line: u32,
-    pub(crate) after: Option<u32>,
-}
 
 /// The Book of a channel, and those who wait for its lines. Contracts see the Book, and the fault by which the channel has
 /// ended.
@@ -138,26 +131,23 @@ impl<J: Job> Locked<J> {
         &mut self,
         rt: &R,
         lane: &mut Lane<J>,
-        place: Place,
+        at: GatedLine,
         event: DriverEvent,
         prepared: Option<Prepared>,
         steps: &mut Steps<L>,
     ) -> Result<(), ChanFault>
         requires driver { lane.old.actor ≡ 0 }
-        requires next { HasNext J.plan lane.old place.line place.after (ListedEvent.Driver event) }
-        requires free { IsFree lane.old place.after self.old }
+        requires next { HasNext J.plan lane.old at.line at.after (ListedEvent.Driver event) }
+        requires free { IsFree lane.old at.after self.old }
         requires prepared { IsPreparedFor event prepared }
         ensures lane { OnOk result (IsAfterEvent lane.old lane.new (texts_of prepared)) }
         ensures same { OnErr result (lane.new ≡ lane.old) }
         ensures cause { IfErr result (IsCauseAt lane.new.count) }
     {
         self.admit(lane)?;
-        match self
-            .book
-            .apply(rt, lane, place.line, event, prepared, steps)
-        {
+        match self.book.apply(rt, lane, at.line, event, prepared, steps) {
             Ok(_) => {
-                self.tell(place.line);
+                self.tell(at.line);
                 Ok(())
             }
             Err(fault) => {
@@ -171,20 +161,20 @@ impl<J: Job> Locked<J> {
     pub(crate) fn pin(
         &mut self,
         lane: &mut Lane<J>,
-        place: Place,
+        at: GatedLine,
         call: Shared<Call>,
     ) -> Result<Option<Pinned<J>>, ChanFault>
         requires caller { 0 < lane.old.actor }
-        requires next { HasNext J.plan lane.old place.line place.after (ListedEvent.Start call) }
-        requires free { IsFree lane.old place.after self.old }
+        requires next { HasNext J.plan lane.old at.line at.after (ListedEvent.Start call) }
+        requires free { IsFree lane.old at.after self.old }
         ensures lane { IfOk result (IsAfterPin lane.old lane.new call) }
         ensures same { OnErr result (lane.new ≡ lane.old) }
         ensures cause { IfErr result (IsCauseAt lane.new.count) }
     {
         self.admit(lane)?;
-        match self.book.pin(lane, place.line, call) {
+        match self.book.pin(lane, at.line, call) {
             Ok(token) => {
-                self.tell(place.line);
+                self.tell(at.line);
                 Ok(token)
             }
             Err(fault) => {
@@ -198,23 +188,23 @@ impl<J: Job> Locked<J> {
     pub(crate) fn hold<L: Ledger>(
         &mut self,
         lane: &mut Lane<J>,
-        place: Place,
+        at: GatedLine,
         token: Pinned<J>,
         answer: RouteAnswer,
         steps: &mut Steps<L>,
     ) -> Result<(), ChanFault>
         requires caller { 0 < lane.old.actor }
-        requires up { HasUp J.plan lane.old place.line place.after token.call }
-        requires free { IsFree lane.old place.after self.old }
+        requires up { HasUp J.plan lane.old at.line at.after token.call }
+        requires free { IsFree lane.old at.after self.old }
         requires answer { answer ≡ route (pinned_front token) token.call }
         ensures lane { OnOk result (lane.new ≡ lane_held lane.old) }
         ensures same { OnErr result (lane.new ≡ lane.old) }
         ensures cause { IfErr result (IsCauseAt lane.new.count) }
     {
         self.admit(lane)?;
-        match self.book.hold(lane, place.line, token, answer, steps) {
+        match self.book.hold(lane, at.line, token, answer, steps) {
             Ok(_) => {
-                self.tell(place.line);
+                self.tell(at.line);
                 Ok(())
             }
             Err((fault, _)) => {
@@ -228,21 +218,21 @@ impl<J: Job> Locked<J> {
     pub(crate) fn pick(
         &mut self,
         lane: &mut Lane<J>,
-        place: Place,
+        at: GatedLine,
         call: CallId,
         word: u64,
     ) -> Result<(), ChanFault>
         requires caller { 0 < lane.old.actor }
-        requires next { HasNext J.plan lane.old place.line place.after (ListedEvent.Pick call word) }
-        requires free { IsFree lane.old place.after self.old }
+        requires next { HasNext J.plan lane.old at.line at.after (ListedEvent.Pick call word) }
+        requires free { IsFree lane.old at.after self.old }
         ensures lane { OnOk result (lane.new ≡ lane_ended lane.old) }
         ensures same { OnErr result (lane.new ≡ lane.old) }
         ensures cause { IfErr result (IsCauseAt lane.new.count) }
     {
         self.admit(lane)?;
-        match self.book.pick(lane, place.line, call, word) {
+        match self.book.pick(lane, at.line, call, word) {
             Ok(_) => {
-                self.tell(place.line);
+                self.tell(at.line);
                 Ok(())
             }
             Err(fault) => {
@@ -256,20 +246,20 @@ impl<J: Job> Locked<J> {
     pub(crate) fn commit(
         &mut self,
         lane: &mut Lane<J>,
-        place: Place,
+        at: GatedLine,
         call: CallId,
     ) -> Result<(), ChanFault>
         requires caller { 0 < lane.old.actor }
-        requires next { HasNext J.plan lane.old place.line place.after (ListedEvent.Commit call) }
-        requires free { IsFree lane.old place.after self.old }
+        requires next { HasNext J.plan lane.old at.line at.after (ListedEvent.Commit call) }
+        requires free { IsFree lane.old at.after self.old }
         ensures lane { OnOk result (lane.new ≡ lane_ended lane.old) }
         ensures same { OnErr result (lane.new ≡ lane.old) }
         ensures cause { IfErr result (IsCauseAt lane.new.count) }
     {
         self.admit(lane)?;
-        match self.book.commit(lane, place.line, call) {
+        match self.book.commit(lane, at.line, call) {
             Ok(_) => {
-                self.tell(place.line);
+                self.tell(at.line);
                 Ok(())
             }
             Err(fault) => {

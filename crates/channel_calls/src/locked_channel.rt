@@ -19,10 +19,11 @@ ghost use Rattle.channel_calls.specs.LockedBooks.{IsAfterPin, IsDriven, IsFree, 
 use crate::call_gate::Gate;
 use crate::channel_faults::ChanFault;
 use crate::event_checks::prepared_event;
-use crate::locked_book::{Locked, Place};
+use crate::locked_book::Locked;
 use call_journal::DriverEvent;
 use cluster_tree::Snapshot;
 use header_match::Patterns;
+use lane_checks::GatedLine;
 use route_match::RouteAnswer;
 use snapshot_store::Archive;
 use std::alloc::Global;
@@ -116,9 +117,9 @@ impl<J: Job> Channel<J> {
         let Ok(prepared) = prepared_event(self.alloc, &event, patterns) else {
             return Err(self.run_out(rt));
         };
-        let place = Place { line, after };
+        let at = GatedLine { line, after };
         let mut locked = self.enter(rt, lane, after);
-        let made = locked.drive(rt, lane, place, event, prepared, steps);
+        let made = locked.drive(rt, lane, at, event, prepared, steps);
         self.leave(locked);
         made
     }
@@ -142,13 +143,13 @@ impl<J: Job> Channel<J> {
         ensures same { OnErr result ((lane.new ≡ lane.old) ⊎ (lane.new ≡ lane_pinned lane.old)) }
         ensures cause { IfErr result (IsCauseAt lane.new.count) }
     {
-        let place = Place { line, after };
-        let Some(token) = self.pin(rt, lane, place, call)? else {
+        let at = GatedLine { line, after };
+        let Some(token) = self.pin(rt, lane, at, call)? else {
             return Ok(());
         };
         let answer = self.route(rt, &token, steps)?;
         gate.between(rt, token.call().id, &answer);
-        self.hold(rt, lane, place, token, answer, steps)
+        self.hold(rt, lane, at, token, answer, steps)
     }
 
     /// Picks an endpoint for a call, as it is listed next for the lane of a caller.
@@ -167,9 +168,9 @@ impl<J: Job> Channel<J> {
         ensures same { OnErr result (lane.new ≡ lane.old) }
         ensures cause { IfErr result (IsCauseAt lane.new.count) }
     {
-        let place = Place { line, after };
+        let at = GatedLine { line, after };
         let mut locked = self.enter(rt, lane, after);
-        let made = locked.pick(lane, place, call, word);
+        let made = locked.pick(lane, at, call, word);
         self.leave(locked);
         made
     }
@@ -189,9 +190,9 @@ impl<J: Job> Channel<J> {
         ensures same { OnErr result (lane.new ≡ lane.old) }
         ensures cause { IfErr result (IsCauseAt lane.new.count) }
     {
-        let place = Place { line, after };
+        let at = GatedLine { line, after };
         let mut locked = self.enter(rt, lane, after);
-        let made = locked.commit(lane, place, call);
+        let made = locked.commit(lane, at, call);
         self.leave(locked);
         made
     }
@@ -270,17 +271,17 @@ impl<J: Job> Channel<J> {
         &self,
         rt: &R,
         lane: &mut Lane<J>,
-        place: Place,
+        at: GatedLine,
         call: Shared<Call>,
     ) -> Result<Option<Pinned<J>>, ChanFault>
         requires caller { 0 < lane.old.actor }
-        requires next { HasNext J.plan lane.old place.line place.after (ListedEvent.Start call) }
+        requires next { HasNext J.plan lane.old at.line at.after (ListedEvent.Start call) }
         ensures lane { IfOk result (IsAfterPin lane.old lane.new call) }
         ensures same { OnErr result (lane.new ≡ lane.old) }
         ensures cause { IfErr result (IsCauseAt lane.new.count) }
     {
-        let mut locked = self.enter(rt, lane, place.after);
-        let made = locked.pin(lane, place, call);
+        let mut locked = self.enter(rt, lane, at.after);
+        let made = locked.pin(lane, at, call);
         self.leave(locked);
         made
     }
@@ -306,20 +307,20 @@ impl<J: Job> Channel<J> {
         &self,
         rt: &R,
         lane: &mut Lane<J>,
-        place: Place,
+        at: GatedLine,
         token: Pinned<J>,
         answer: RouteAnswer,
         steps: &mut Steps<L>,
     ) -> Result<(), ChanFault>
         requires caller { 0 < lane.old.actor }
-        requires up { HasUp J.plan lane.old place.line place.after token.call }
+        requires up { HasUp J.plan lane.old at.line at.after token.call }
         requires answer { answer ≡ route (pinned_front token) token.call }
         ensures lane { OnOk result (lane.new ≡ lane_held lane.old) }
         ensures same { OnErr result (lane.new ≡ lane.old) }
         ensures cause { IfErr result (IsCauseAt lane.new.count) }
     {
-        let mut locked = self.enter(rt, lane, place.after);
-        let made = locked.hold(lane, place, token, answer, steps);
+        let mut locked = self.enter(rt, lane, at.after);
+        let made = locked.hold(lane, at, token, answer, steps);
         self.leave(locked);
         made
     }

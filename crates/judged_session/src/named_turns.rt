@@ -6,19 +6,28 @@ use crate::trials::Trial;
 use call_journal::Plan;
 use header_match::Patterns;
 use report_compare::{Mistake, Why};
-use report_turns::{Found, Turn, Turns};
+use report_turns::{EntryTurn, EntryTurns, Found};
 use std::alloc::AllocError;
 use std::sync::Wait;
 use std::sync::ledger::{Blank, Ledger};
-use turn_player::Table;
+use turn_player::{Halt, Table};
 use xc_base::{List, Memory, Steps};
 use xds_book::{Book, Job, Lane};
+
+/// All that is listed was played.
+#[derive(Drop)]
+pub(crate) struct WholePlay<J: Job> {
+    /// The lanes, the driver's first.
+    pub(crate) lanes: Vec<Lane<J>>,
+    /// The line at which the report's turns end, from 1.
+    pub(crate) line: u32,
+}
 
 /// What came of the turns of a report.
 #[derive(Drop)]
 pub(crate) enum Outcome<J: Job> {
-    /// All that is listed was played. These are the lanes, the driver's first.
-    Whole(Vec<Lane<J>>),
+    /// All that is listed was played.
+    Whole(WholePlay<J>),
     /// The first turn that can't be played, or the end of a report whose turns don't play all that is listed.
     Stopped(Mistake),
 }
@@ -28,7 +37,7 @@ fn play_turn<J: Job, L: Ledger, R: Wait + Sync, P: Patterns>(
     rt: &R,
     plan: &Plan,
     table: &mut Table<'_, J, L>,
-    turn: Turn<'_>,
+    turn: EntryTurn<'_>,
     number: u32,
     patterns: &mut P,
 ) -> Result<Option<Mistake>, Memory>
@@ -43,7 +52,8 @@ fn play_turn<J: Job, L: Ledger, R: Wait + Sync, P: Patterns>(
                 why,
             },
         })),
-        Err(_) => Err(AllocError),
+        Err(Halt::Strange) => Ok(Some(Mistake::stuck(number))),
+        Err(Halt::Memory) => Err(AllocError),
     }
 }
 
@@ -67,12 +77,11 @@ fn play_turns<J: Job, L: Ledger, R: Wait + Sync, P: Patterns>(
     rt: &R,
     plan: &Plan,
     table: &mut Table<'_, J, L>,
-    report: &[u8],
+    turns: &mut EntryTurns<'_>,
     patterns: &mut P,
 ) -> Result<Option<Mistake>, Memory>
     requires plan { IsTurnPlan J.plan (length J.boot.authorities) plan.now.actors }
 {
-    let mut turns = Turns::new(report);
     for entry in 0..u32::MAX {
         let _ = entry;
         let found = turns.find();
@@ -112,8 +121,12 @@ pub(crate) fn play_report<J: Job, L: Ledger, R: Wait + Sync, P: Patterns>(
 {
     let steps = Steps::<L>::new(blank);
     let mut table = Table::new(trial.alloc, book, lanes, steps)?;
-    match play_turns(rt, &trial.plan, &mut table, trial.report, patterns)? {
+    let mut turns = EntryTurns::new(trial.report);
+    match play_turns(rt, &trial.plan, &mut table, &mut turns, patterns)? {
         Some(mistake) => Ok(Outcome::Stopped(mistake)),
-        None => Ok(Outcome::Whole(table.into_lanes()?)),
+        None => Ok(Outcome::Whole(WholePlay {
+            lanes: table.into_lanes()?,
+            line: turns.number(),
+        })),
     }
 }

@@ -6,10 +6,10 @@ ghost use Rattle.report_compare.specs.LegalReports.{IsReportOf};
 ghost use Rattle.session_player.specs.Stages.{IsOfSession};
 ghost use Rattle.session_shape.specs.SessionShape.{IsWellFormed};
 
-use crate::named_turns::{Outcome, play_report};
+use crate::named_turns::{Outcome, WholePlay, play_report};
 use crate::session_book::begin_book;
 use crate::trials::Trial;
-use closed_book::ClosedBook;
+use closed_book::{ClosedBook, Stop};
 use cluster_tree::Snapshot;
 use header_match::Patterns;
 use report_compare::{Mistake, PlayedPart, compare, compare_until};
@@ -21,7 +21,7 @@ use std::marker::Brand;
 use std::sync::Wait;
 use std::sync::ledger::{Blank, Ledger};
 use xc_base::{List, Memory, Shared};
-use xds_book::{Book, Job, Lane};
+use xds_book::{Book, Job};
 
 /// The mistake of a report whose turns don't play all that is listed, where this Book was played.
 fn judge_stopped<J: Job>(
@@ -45,7 +45,7 @@ fn judge_whole<J: Job, L: Ledger, R: Wait + Sync>(
     blank: Blank,
     trial: Trial<'_>,
     book: Book<J>,
-    lanes: Vec<Lane<J>>,
+    whole: WholePlay<J>,
 ) -> Result<Option<Mistake>, Memory>
     requires name { blank.name ≡ L.name }
     requires parts { blank.parts ≡ L.parts }
@@ -59,21 +59,23 @@ fn judge_whole<J: Job, L: Ledger, R: Wait + Sync>(
         plan,
         report,
     } = trial;
-    let mut lanes = lanes;
+    let WholePlay { mut lanes, line } = whole;
     if lanes.is_empty() {
-        return Err(AllocError);
+        return Ok(Some(Mistake::stuck(line)));
     }
     let driver = lanes.remove(0);
     if driver.actor() != 0 {
-        return Err(AllocError);
+        return Ok(Some(Mistake::stuck(line)));
     }
     let closed = ClosedBook {
         book,
         lanes: List::from_vec(lanes),
         plan,
     };
-    let Ok(played) = closed.report::<R, L>(rt, blank, driver) else {
-        return Err(AllocError);
+    let played = match closed.report::<R, L>(rt, blank, driver) {
+        Ok(played) => played,
+        Err(Stop::Strange) => return Ok(Some(Mistake::stuck(line))),
+        Err(Stop::Memory) => return Err(AllocError),
     };
     let part = PlayedPart {
         session,
@@ -109,7 +111,7 @@ fn judge_by<J: Job, L: Ledger, R: Wait + Sync, P: Patterns>(
         patterns,
     )?;
     match outcome {
-        Outcome::Whole(lanes) => judge_whole::<J, L, R>(rt, blank, trial, book, lanes),
+        Outcome::Whole(whole) => judge_whole::<J, L, R>(rt, blank, trial, book, whole),
         Outcome::Stopped(mistake) => Ok(Some(judge_stopped(trial, book, mistake)?)),
     }
 }
@@ -130,7 +132,7 @@ fn judge_planned<R: Wait + Sync, P: Patterns>(
 
 /// Judges a report of a session: the turns that its lines name are played on one thread, in their order, with the pattern
 /// texts refused that it lists, and what was played is compared with it. None is that it is the report of a legal history of
-/// the session; else it is the first mistake. It fails for want of memory.
+/// the session; else it is the first mistake, or `Why::Stuck`. It fails for want of memory alone.
 pub fn judge_session<R: Wait + Sync, P: Patterns>(
     rt: &R,
     alloc: Global,

@@ -6,6 +6,13 @@ ghost use Rattle.xds_book.specs.BookEntries.{IsLaneOf};
 use call_journal::Count;
 use xds_book::{Book, Job, Lane};
 
+/// A line, and the line that gates it: that one has to end before it.
+#[derive(Clone, Copy)]
+pub struct GatedLine {
+    pub line: u32,
+    pub after: Option<u32>,
+}
+
 /// What a Book and a lane count of one actor, where they count differently.
 #[derive(Clone, Copy)]
 pub struct Difference {

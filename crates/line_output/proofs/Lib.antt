@@ -1,1 +1,2 @@
+mod FirstPlaces
 pub mod WrittenText

@@ -1,19 +1,12 @@
 //! The lines of a text, written one after another.
-ghost use Rattle.std.specs.Prelude.{◌≡◌, ◌==◌, ◌<◌, ◌≤◌, ◌+◌, length, IfSome, MatchOption, OnOk, OnErr};
+ghost use Rattle.std.specs.Prelude.{◌≡◌, ◌==◌, ◌<◌, ◌≤◌, ◌+◌, length, MatchOption, OnOk, OnErr};
 ghost use Rattle.std.specs.Io.KnownBytes.{Appends};
 ghost use Rattle.std.specs.List.{position};
 ghost use Rattle.xc_base.specs.Causes.{HasCause};
 ghost use Rattle.xc_base.specs.Outside.{AppendsPrefix};
 
+use crate::byte_search::find_byte;
 use xc_base::{Failed, Sink, write_all};
-
-/// The place of the first line feed.
-fn feed_place(text: &[u8]) -> Option<usize>
-    ensures place { result ≡ position (λ b. b == 10) text.now }
-    ensures within { IfSome result (λ at. at < length text.now) }
-{
-    text.iter().position(|b| *b == b'\n')
-}
 
 /// How many bytes the first line has, its line feed included; the last line of a text may lack it.
 fn line_len(text: &[u8]) -> usize
@@ -21,7 +14,7 @@ fn line_len(text: &[u8]) -> usize
     ensures some { 0 < length text.now → 0 < result }
     ensures feed { MatchOption (position (λ b. b == 10) text.now) (result ≡ length text.now) (λ at. result ≡ at + 1) }
 {
-    match feed_place(text) {
+    match find_byte(b'\n', text) {
         Some(at) => at + 1,
         None => text.len(),
     }

@@ -6,7 +6,7 @@ use xc_base::Text;
 /// How many words at the beginning of an entry say which entry it is.
 const SHARED_WORDS: u32 = 3;
 
-/// Why no front of a legal history's text goes on with a line of a report.
+/// Why no front of a legal history's text goes on with a line of a report, or why that can't be told.
 #[derive(Drop)]
 pub enum Why {
     /// Something else stands there in the text of the history whose actors act in the order of the report.
@@ -19,6 +19,8 @@ pub enum Why {
     Strange,
     /// The last line has no line feed.
     NoLineFeed,
+    /// The session can't be played on from here. No way is known on which this comes.
+    Stuck,
 }
 
 /// What stands in a line, and what a legal report has there. None is no line.
@@ -28,11 +30,21 @@ pub struct Difference {
     pub legal: Option<Text>,
 }
 
-/// The first line of a report that can't stand there, from 1, and why it can't.
+/// The first line of a report that can't stand there, from 1, or from which the session can't be played on; and why.
 #[derive(Drop)]
 pub struct Mistake {
     pub line: u32,
     pub why: Why,
+}
+
+impl Mistake {
+    /// The session can't be played on from this line of the report.
+    pub fn stuck(line: u32) -> Mistake {
+        Mistake {
+            line,
+            why: Why::Stuck,
+        }
+    }
 }
 
 /// What stands behind the first words that two lines of entries share: number, line of the session and actor.
@@ -100,6 +112,7 @@ impl fmt::Display for Why {
             Why::Left { line } => write!(f, "session line {line} isn't played to its end"),
             Why::Strange => write!(f, "this is no line of a report"),
             Why::NoLineFeed => write!(f, "the line feed is missing"),
+            Why::Stuck => write!(f, "the session can't be played on from here"),
         }
     }
 }

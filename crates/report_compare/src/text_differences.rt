@@ -6,7 +6,7 @@ use xc_base::{Memory, Text};
 
 /// How far a report is that of what was played.
 #[derive(Clone, Copy)]
-pub(crate) struct Place<'a> {
+pub(crate) struct Parting<'a> {
     /// The number of the first line that differs, or with which one of the texts goes on alone.
     pub(crate) line: u32,
     /// The report's line.
@@ -32,14 +32,14 @@ fn are_same(one: Option<&[u8]>, other: Option<&[u8]>) -> bool {
 }
 
 /// Where a report and a text part.
-pub(crate) fn parting<'a>(report: &'a [u8], text: &'a [u8]) -> Place<'a> {
+pub(crate) fn find_parting<'a>(report: &'a [u8], text: &'a [u8]) -> Parting<'a> {
     let mut report = report;
     let mut text = text;
     for before in 0..u32::MAX {
         let (found, report_after) = first_of(report);
         let (legal, text_after) = first_of(text);
         if !are_same(found, legal) {
-            return Place {
+            return Parting {
                 line: before + 1,
                 found,
                 legal,
@@ -48,7 +48,7 @@ pub(crate) fn parting<'a>(report: &'a [u8], text: &'a [u8]) -> Place<'a> {
         report = report_after;
         text = text_after;
     }
-    Place {
+    Parting {
         line: u32::MAX,
         found: None,
         legal: None,
@@ -65,7 +65,7 @@ fn line_text(alloc: Global, line: Option<&[u8]>) -> Result<Option<Text>, Memory>
     Ok(Some(text))
 }
 
-impl Place<'_> {
+impl Parting<'_> {
     /// What stands in the two lines.
     pub(crate) fn difference(&self, alloc: Global) -> Result<Difference, Memory> {
         Ok(Difference {
@@ -77,16 +77,16 @@ impl Place<'_> {
 
 /// The mistake of a report that isn't this text of a legal history.
 pub(crate) fn differs(alloc: Global, report: &[u8], text: &[u8]) -> Result<Mistake, Memory> {
-    let place = parting(report, text);
-    if place.found.is_none() && place.legal.is_none() {
+    let parting = find_parting(report, text);
+    if parting.found.is_none() && parting.legal.is_none() {
         return Ok(Mistake {
-            line: place.line.saturating_sub(1),
+            line: parting.line.saturating_sub(1),
             why: Why::NoLineFeed,
         });
     }
-    let why = Why::Text(place.difference(alloc)?);
+    let why = Why::Text(parting.difference(alloc)?);
     Ok(Mistake {
-        line: place.line,
+        line: parting.line,
         why,
     })
 }
@@ -107,16 +107,16 @@ pub(crate) fn stops(
     text: &[u8],
     mistake: Mistake,
 ) -> Result<Mistake, Memory> {
-    let mut place = parting(report, text);
-    if is_end(place.legal) {
-        if place.line >= mistake.line {
+    let mut parting = find_parting(report, text);
+    if is_end(parting.legal) {
+        if parting.line >= mistake.line {
             return Ok(mistake);
         }
-        place.legal = None;
+        parting.legal = None;
     }
-    let why = Why::Text(place.difference(alloc)?);
+    let why = Why::Text(parting.difference(alloc)?);
     Ok(Mistake {
-        line: place.line,
+        line: parting.line,
         why,
     })
 }

@@ -5,7 +5,7 @@ use xc_base::read_number;
 
 /// What the first line of an entry says: whose turn it is, and for which line of the session; and what stands behind it.
 #[derive(Clone, Copy)]
-pub struct Turn<'a> {
+pub struct EntryTurn<'a> {
     /// The actor: the driver is 0, and callers are 1 and more.
     pub actor: u16,
     /// The line of the session; 0 is that of the last sweep.
@@ -18,7 +18,7 @@ pub struct Turn<'a> {
 #[derive(Clone, Copy)]
 pub enum Found<'a> {
     /// An entry.
-    Entry(Turn<'a>),
+    Entry(EntryTurn<'a>),
     /// A line that belongs to no entry and isn't the last one of a report.
     Strange,
     /// The last line of a report, or the end of the text.
@@ -27,7 +27,7 @@ pub enum Found<'a> {
 
 /// Reads the entries of a report one after another.
 #[derive(Clone, Copy)]
-pub struct Turns<'a> {
+pub struct EntryTurns<'a> {
     rest: &'a [u8],
     number: u32,
 }
@@ -43,13 +43,13 @@ fn read_actor(word: &str) -> Option<u16> {
 }
 
 /// The entry whose first line this is: its number, its line of the session, its actor, and what happens, parted by spaces.
-fn read_turn<'a>(line: &[u8], more: &'a [u8]) -> Option<Turn<'a>> {
+fn read_turn<'a>(line: &[u8], more: &'a [u8]) -> Option<EntryTurn<'a>> {
     let line = str::from_utf8(line).ok()?;
     let (_number, line) = line.split_once(' ')?;
     let (number, line) = line.split_once(' ')?;
     let (actor, _what) = line.split_once(' ')?;
     let number = read_number(number)?;
-    Some(Turn {
+    Some(EntryTurn {
         actor: read_actor(actor)?,
         line: u32::try_from(number).ok()?,
         more,
@@ -72,10 +72,10 @@ fn found_at<'a>(line: &[u8], more: &'a [u8]) -> Found<'a> {
     }
 }
 
-impl<'a> Turns<'a> {
+impl<'a> EntryTurns<'a> {
     /// The entries behind the first line of a report.
-    pub fn new(report: &'a [u8]) -> Turns<'a> {
-        let mut turns = Turns {
+    pub fn new(report: &'a [u8]) -> EntryTurns<'a> {
+        let mut turns = EntryTurns {
             rest: report,
             number: 0,
         };

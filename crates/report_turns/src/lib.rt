@@ -4,5 +4,5 @@
 pub mod entry_turns;
 pub mod misplaced_turns;
 
-pub use entry_turns::{Found, Turn, Turns};
+pub use entry_turns::{EntryTurn, EntryTurns, Found};
 pub use misplaced_turns::Misplaced;

@@ -1,5 +1,5 @@
 -- The generated session, cut before and behind a round.
-use Rattle.std.proofs.Common.{◌≡◌, ◌≤◌, ◌<◌, ℕ, zero, suc, ◌+◌, ◌-◌, List, [], ◌++◌, sym, ap, ◌∙◌, append_assoc, append-nil, arith, subst, refl}
+use Rattle.std.proofs.Common.{◌≡◌, ◌≤◌, ◌<◌, ℕ, zero, suc, ◌+◌, ◌-◌, List, [], ◌++◌, sym, ap, ◌∙◌, append_assoc, append-nil, arith, refl}
 use Rattle.session_generator.specs.FirstLines.{first_lines}
 use Rattle.session_generator.specs.Rounds.{round_lines}
 use Rattle.session_generator.specs.Generated.{generated}

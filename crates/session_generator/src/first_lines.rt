@@ -5,7 +5,7 @@ ghost use Rattle.session_generator.specs.FirstLines.{first_lines};
 /// The lines that set the channel up: a bootstrap with one server, the target `svc`, four callers, and a stream with three
 /// responses. The first has a listener that sends each path to the clusters `c0` and `c1` by the weights 1 and 3, the
 /// second has these clusters, the third has two endpoints for each. Then the four endpoints are ready.
-pub fn first_lines() -> &'static str
+pub(crate) fn first_lines() -> &'static str
     ensures { result.now ≡ first_lines }
 {
     "xds-session 1\n\

@@ -1,18 +1,17 @@
 //! The rounds of the generated session.
-ghost use Rattle.std.specs.Prelude.{◌≡◌, ◌<◌, IfOk, string_bytes};
+ghost use Rattle.std.specs.Prelude.{◌≡◌, ◌<◌, ◌++◌, OnOk, string_bytes};
 ghost use Rattle.session_generator.specs.Rounds.{driver_lines, round_lines, state_line, state_word, time_line};
 
-use crate::call_lines::caller_lines;
-use std::alloc::Global;
+use crate::call_lines::push_callers;
+use std::fmt::Write;
 use xc_base::Memory;
 
-/// The line in which the moment of a round, in milliseconds, is told.
+/// Adds the line in which the moment of a round, in milliseconds, is told.
 #[tactic(auto, unfolding(crate::specs::Rounds::time_line))]
-fn time_line(alloc: Global, gate: u32, round: u16) -> Result<String, Memory>
-    ensures { IfOk result (λ s. string_bytes s ≡ time_line gate round) }
+fn push_time(out: &mut String, gate: u32, round: u16) -> Result<(), Memory>
+    ensures { OnOk result (string_bytes out.new ≡ string_bytes out.old ++ time_line gate round) }
 {
-    let text = format!(in alloc; "@{gate} d time {round}\n")?;
-    Ok(text)
+    write!(out, "@{gate} d time {round}\n")
 }
 
 /// The state of the endpoint that changes: it fails in odd rounds, and is ready again in even ones.
@@ -22,39 +21,34 @@ fn state_word(round: u16) -> &'static str
     if round % 2 == 1 { "failing" } else { "ready" }
 }
 
-/// The line in which that state is told.
+/// Adds the line in which that state is told.
 #[tactic(auto, unfolding(crate::specs::Rounds::state_line))]
-fn state_line(alloc: Global, gate: u32, round: u16) -> Result<String, Memory>
-    ensures { IfOk result (λ s. string_bytes s ≡ state_line gate round) }
+fn push_state(out: &mut String, gate: u32, round: u16) -> Result<(), Memory>
+    ensures { OnOk result (string_bytes out.new ≡ string_bytes out.old ++ state_line gate round) }
 {
     let state = state_word(round);
-    let text = format!(in alloc; "@{gate} d endpoint 10.0.0.1:80 {state}\n")?;
-    Ok(text)
+    write!(out, "@{gate} d endpoint 10.0.0.1:80 {state}\n")
 }
 
-/// The driver's lines of a round, each after the last line of a caller.
+/// Adds the driver's lines of a round, each after the last line of a caller.
 #[tactic(auto, unfolding(crate::specs::Rounds::driver_lines))]
-fn driver_lines(alloc: Global, round: u16) -> Result<String, Memory>
+fn push_driver(out: &mut String, round: u16) -> Result<(), Memory>
     requires { 0 < round }
-    ensures { IfOk result (λ s. string_bytes s ≡ driver_lines round) }
+    ensures { OnOk result (string_bytes out.new ≡ string_bytes out.old ++ driver_lines round) }
 {
     let before = 12 + 20 * (u32::from(round) - 1);
-    let first = time_line(alloc, before + 4, round)?;
-    let second = time_line(alloc, before + 8, round)?;
-    let third = time_line(alloc, before + 12, round)?;
-    let state = state_line(alloc, before + 16, round)?;
-    let text = format!(in alloc; "{first}{second}{third}{state}")?;
-    Ok(text)
+    push_time(out, before + 4, round)?;
+    push_time(out, before + 8, round)?;
+    push_time(out, before + 12, round)?;
+    push_state(out, before + 16, round)
 }
 
-/// The twenty lines of a round, from 1: those of the four callers, and then the driver's.
+/// Adds the twenty lines of a round, from 1: those of the four callers, and then the driver's.
 #[tactic(auto, unfolding(crate::specs::Rounds::round_lines))]
-pub fn round_lines(alloc: Global, round: u16) -> Result<String, Memory>
+pub(crate) fn push_round(out: &mut String, round: u16) -> Result<(), Memory>
     requires { 0 < round }
-    ensures { IfOk result (λ s. string_bytes s ≡ round_lines round) }
+    ensures { OnOk result (string_bytes out.new ≡ string_bytes out.old ++ round_lines round) }
 {
-    let callers = caller_lines(alloc, round)?;
-    let driver = driver_lines(alloc, round)?;
-    let text = format!(in alloc; "{callers}{driver}")?;
-    Ok(text)
+    push_callers(out, round)?;
+    push_driver(out, round)
 }

@@ -11,14 +11,14 @@ ghost use Rattle.session_shape.specs.SessionShape.{IsWellFormed};
 ghost use Rattle.session_input.specs.Inputs.{document_in, second_line};
 
 use generated_law::generated_spells;
-use session_generator::write_session;
+use session_generator::session_text;
 use session_lines::lines::next_line;
 use session_lines::{Session, SessionFault};
 use session_script::read_session;
 use session_shape::read_is_well_formed;
 use std::alloc::{AllocError, Global};
 use std::str;
-use xc_base::{BytesSink, Memory};
+use xc_base::Memory;
 use xds_bootstrap::Bootstrap;
 
 /// Line 2, if there is one.
@@ -90,12 +90,9 @@ pub fn generated_input(alloc: Global, rounds: u32) -> Result<Session, Memory>
     ensures session { IfOk result (λ session. session ≡ generated_session rounds) }
     ensures formed { IfOk result IsWellFormed }
 {
-    let mut text = BytesSink::new(alloc, Vec::new(alloc));
-    if write_session(alloc, rounds, &mut text).is_err() {
-        return Err(AllocError);
-    }
+    let text = session_text(alloc, rounds)?;
     generated_spells();
-    match session_in(alloc, text.bytes()) {
+    match session_in(alloc, text.as_str().as_bytes()) {
         Ok(session) => Ok(session),
         Err(fault) => Err(memory_of(fault)),
     }

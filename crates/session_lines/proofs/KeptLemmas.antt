@@ -1,14 +1,12 @@
 -- What is kept of lines, with one more.
 use Rattle.std.proofs.Common.{◌≡◌, ◌≤◌, ◌+◌, ℕ, max, Bool, true, false, not, ◌&&◌, ◌||◌, eqb, List, [], ◌∷◌, ◌++◌, length, reverse, Option, Some, None, refl, sym, ap, ◌∙◌, cond, arith}
 use Rattle.std.specs.Option.{option_map_or}
-use Rattle.std.specs.BTreeMap.{BTreeMap, get}
-use Rattle.std.specs.BTreeSet.{BTreeSet, contains}
-use Rattle.std.specs.Ordering.{nat_cmp}
 use Rattle.std.proofs.lemmas.Bool.Decides.{nat_tests}
 use Rattle.std.proofs.lemmas.List.{reverse-append}
 use Rattle.std.proofs.lemmas.List.Sums.{sum_by-cons}
 use Rattle.session_lines.specs.Before.{call_in, data_len, driver_bytes, data_lens, act_entries, entries_of, is_driven, is_of_other, latest, names_for_other, starts, time_in}
-use Rattle.session_lines.specs.KeptSession.{Fits, FitsDriver, IsKept, IsOwned, owner_with}
+use Rattle.session_lines.specs.KeptSession.{Fits, FitsDriver, IsKept, IsOfNoOther, use_of, caller_with}
+use Rattle.session_lines.specs.declared.call_uses.CallUse.{CallUse}
 use Rattle.session_lines.specs.declared.session.Act.{Act}
 use Rattle.session_lines.specs.declared.session.Act.TheVariants as act
 use Rattle.session_lines.specs.declared.session.DriverLine.{DriverLine}
@@ -21,7 +19,7 @@ abbrev pub is_other : ℕ → Option ℕ → Bool
 is_other caller owner = option_map_or (λ other. not (eqb other caller)) owner false
 
 abbrev pub Tells : List Line → (ℕ → Option ℕ) → Type 0
-Tells lines owners = (caller id : ℕ) → is_of_other caller id lines ≡ is_other caller (owners id)
+Tells lines callers = (caller id : ℕ) → is_of_other caller id lines ≡ is_other caller (callers id)
 
 turned : (b : Bool) → not b ≡ false → b ≡ true
 turned true h = refl
@@ -35,10 +33,10 @@ or_self : (b : Bool) → (b || b) ≡ b
 or_self true = refl
 or_self false = refl
 
--- where the new owner is the one that there was, if there was one
-same_owner : (caller owner : ℕ) (before : Option ℕ) → is_other owner before ≡ false → (not (eqb owner caller) || is_other caller before) ≡ not (eqb owner caller)
-same_owner caller owner None h = or_false (not (eqb owner caller))
-same_owner caller owner (Some other) h =
+-- where the caller is the one that there was, if there was one
+same_caller : (caller owner : ℕ) (before : Option ℕ) → is_other owner before ≡ false → (not (eqb owner caller) || is_other caller before) ≡ not (eqb owner caller)
+same_caller caller owner None h = or_false (not (eqb owner caller))
+same_caller caller owner (Some other) h =
     let t = turned (eqb other owner) h in
     let e : other ≡ owner = grind (arith, nat_tests) in
     rw e (or_self (not (eqb owner caller)))
@@ -46,13 +44,13 @@ same_owner caller owner (Some other) h =
 by_call : (caller owner id : ℕ) (names : Bool) (old : Bool) (before after : Option ℕ) → old ≡ is_other caller before → is_other owner before ≡ false
     → after ≡ cond names (Some owner) before → ((names && not (eqb owner caller)) || old) ≡ is_other caller after
 by_call caller owner id true old before after is free new =
-    rw (is, new) (same_owner caller owner before free)
+    rw (is, new) (same_caller caller owner before free)
 by_call caller owner id false old before after is free new = rw (new) is
 
-by_work : (line : Line) (lines : List Line) (before after : ℕ → Option ℕ) → Tells lines before → IsOwned line.work lines → ((id : ℕ) → after id ≡ owner_with line.work id (before id)) → Tells (line ∷ lines) after
+by_work : (line : Line) (lines : List Line) (before after : ℕ → Option ℕ) → Tells lines before → IsOfNoOther line.work lines → ((id : ℕ) → after id ≡ caller_with line.work id (before id)) → Tells (line ∷ lines) after
 by_work line lines before after tells owned new caller id = of line.work owned (new id)
   where
-    of : (w : Work) → IsOwned w lines → after id ≡ owner_with w id (before id) → (names_for_other caller id w || is_of_other caller id lines) ≡ is_other caller (after id)
+    of : (w : Work) → IsOfNoOther w lines → after id ≡ caller_with w id (before id) → (names_for_other caller id w || is_of_other caller id lines) ≡ is_other caller (after id)
     of (work.Driver what) own e = tells caller id ∙ ap (is_other caller) (sym e)
     of (work.Caller owner what) own e = of_call (eqb (call_in what) id) refl
       where
@@ -63,15 +61,15 @@ by_work line lines before after tells owned new caller id = of line.work owned (
             let free : is_other owner (before id) ≡ false = ap (λ k. is_other owner (before k)) (sym same) ∙ (sym (tells owner (call_in what)) ∙ own) in
             by_call caller owner id (eqb (call_in what) id) (is_of_other caller id lines) (before id) (after id) (tells caller id) free e
 
-pub kept_none : (owners : BTreeMap ℕ ℕ) (started : BTreeSet ℕ) → owners.entries ≡ [] → started.keys ≡ [] → IsKept [] 0 0 0 0 owners started
+pub kept_none : (uses : List CallUse) → uses ≡ [] → IsKept [] 0 0 0 0 uses
 unfolding latest
-kept_none owners started none no_key = record {
+kept_none uses none = record {
   driven_is = refl;
   bytes_is = refl;
   made_is = refl;
   time_is = refl;
-  owners_is = λ caller id. rw none refl;
-  started_is = λ id. rw no_key refl;
+  callers_is = λ caller id. rw none refl;
+  started_is = λ id. rw none refl;
   few_lines = omega arith;
   few_driven = omega arith;
   few_bytes = omega arith;
@@ -91,15 +89,15 @@ few_of : (w : Work) → entries_of w ≤ 2 + data_len w
 few_of (work.Driver what) = omega arith
 few_of (work.Caller caller what) = omega (arith, few_of_act what)
 
-pub kept_more : (items now : List Line) (line : Line) (driven bytes made time d b e t : ℕ) (owners after : BTreeMap ℕ ℕ) (started begun : BTreeSet ℕ)
-    → IsKept (reverse items) driven bytes made time owners started → now ≡ items ++ line ∷ []
-    → length (reverse items) ≤ 199995 → data_lens (reverse items) + data_len line.work ≤ 8388608 → IsOwned line.work (reverse items)
+pub kept_more : (items now : List Line) (line : Line) (driven bytes made time d b e t : ℕ) (uses after : List CallUse)
+    → IsKept (reverse items) driven bytes made time uses → now ≡ items ++ line ∷ []
+    → length (reverse items) ≤ 199995 → data_lens (reverse items) + data_len line.work ≤ 8388608 → IsOfNoOther line.work (reverse items)
     → d ≡ cond (is_driven line.work) 1 0 → b ≡ data_len line.work → e ≡ entries_of line.work → t ≡ max (time_in line.work) time
-    → ((id : ℕ) → get nat_cmp after id ≡ owner_with line.work id (get nat_cmp owners id))
-    → ((id : ℕ) → contains nat_cmp begun id ≡ (starts id line.work || contains nat_cmp started id))
-    → IsKept (reverse now) (d + driven) (b + bytes) (e + made) t after begun
+    → ((id : ℕ) → (use_of after id).caller ≡ caller_with line.work id (use_of uses id).caller)
+    → ((id : ℕ) → (use_of after id).started ≡ (starts id line.work || (use_of uses id).started))
+    → IsKept (reverse now) (d + driven) (b + bytes) (e + made) t after
 unfolding latest
-kept_more items now line driven bytes made time d b e t owners after started begun h now_is few fits owned d_is b_is e_is t_is owners_new started_new =
+kept_more items now line driven bytes made time d b e t uses after h now_is few fits owned d_is b_is e_is t_is callers_new started_new =
     let more : reverse now ≡ line ∷ reverse items = ap reverse now_is ∙ reverse-append items (line ∷ []) in
     let bytes_now = h.bytes_is in
     let driven_few = h.few_driven in
@@ -111,7 +109,7 @@ kept_more items now line driven bytes made time d b e t owners after started beg
       bytes_is = rw (b_is, h.bytes_is) (sym (sum_by-cons (λ x. data_len x.work) line (reverse items)));
       made_is = rw (e_is, h.made_is) (sym (sum_by-cons (λ x. entries_of x.work) line (reverse items)));
       time_is = t_is ∙ ap (max (time_in line.work)) h.time_is;
-      owners_is = by_work line (reverse items) (get nat_cmp owners) (get nat_cmp after) h.owners_is owned owners_new;
+      callers_is = by_work line (reverse items) (λ id. (use_of uses id).caller) (λ id. (use_of after id).caller) h.callers_is owned callers_new;
       started_is = λ id. started_new id ∙ ap (λ s. starts id line.work || s) (h.started_is id);
       few_lines = omega (arith, few);
       few_driven = omega (arith, driven_few, d_is, one);
@@ -131,6 +129,6 @@ pub fits_data : (w : Work) (lines : List Line) → Fits w lines → data_lens li
 fits_data (work.Driver what) lines fits few = fits_driver what lines fits few
 fits_data (work.Caller caller what) lines fits few = omega (arith, few)
 
-pub fits_call : (w : Work) (lines : List Line) → Fits w lines → IsOwned w lines
+pub fits_call : (w : Work) (lines : List Line) → Fits w lines → IsOfNoOther w lines
 fits_call (work.Driver what) lines fits = tt
 fits_call (work.Caller caller what) lines fits = fits

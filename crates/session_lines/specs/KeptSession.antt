@@ -1,25 +1,34 @@
 -- What the reader keeps of the lines that it has read.
-use Rattle.std.specs.Prelude.{◌≡◌, ℕ, ◌+◌, ◌*◌, ◌≤◌, List, length, false, not, ◌==◌, if◌then◌else◌, Option, Some}
+use Rattle.std.specs.Prelude.{◌≡◌, ℕ, ◌+◌, ◌*◌, ◌≤◌, List, length, false, not, ◌==◌, get_or, if◌then◌else◌, Option, Some, None}
 use Rattle.std.specs.Option.{option_map_or}
-use Rattle.std.specs.Ordering.{nat_cmp}
-use Rattle.std.specs.BTreeMap.{BTreeMap, get}
-use Rattle.std.specs.BTreeSet.{BTreeSet, contains}
 use Rattle.session_lines.specs.Before.{call_in, driver_lines, data_lens, latest, is_of_other, is_started, entries}
+use Rattle.session_lines.specs.declared.call_uses.CallUse.{CallUse}
 use Rattle.session_lines.specs.declared.session.DriverLine.{DriverLine}
 use Rattle.session_lines.specs.declared.session.DriverLine.TheVariants as driver
 use Rattle.session_lines.specs.declared.session.Line.{Line}
 use Rattle.session_lines.specs.declared.session.Work.{Work}
 use Rattle.session_lines.specs.declared.session.Work.TheVariants as work
 
+-- the use of a call that no line names
+abbrev pub unused : CallUse
+unused = record {
+  caller = None;
+  started = false;
+}
+
+-- how lines use the call of a number, where the uses stand by the numbers of their calls
+abbrev pub use_of : List CallUse → ℕ → CallUse
+use_of uses id = get_or uses id unused
+
 -- the caller of a call, after one more line
-abbrev pub owner_with : Work → ℕ → Option ℕ → Option ℕ
-owner_with (work.Driver what) id owner = owner
-owner_with (work.Caller caller what) id owner = if call_in what == id then Some caller else owner
+abbrev pub caller_with : Work → ℕ → Option ℕ → Option ℕ
+caller_with (work.Driver what) id before = before
+caller_with (work.Caller caller what) id before = if call_in what == id then Some caller else before
 
 -- no other caller has named the call of the line
-abbrev pub IsOwned : Work → List Line → Type 0
-IsOwned (work.Driver what) lines = Unit {0}
-IsOwned (work.Caller caller what) lines = is_of_other caller (call_in what) lines ≡ false
+abbrev pub IsOfNoOther : Work → List Line → Type 0
+IsOfNoOther (work.Driver what) lines = Unit {0}
+IsOfNoOther (work.Caller caller what) lines = is_of_other caller (call_in what) lines ≡ false
 
 abbrev pub FitsDriver : DriverLine → List Line → Type 0
 FitsDriver (driver.Opened authority) lines = Unit {0}
@@ -34,14 +43,14 @@ abbrev pub Fits : Work → List Line → Type 0
 Fits (work.Driver what) lines = FitsDriver what lines
 Fits (work.Caller caller what) lines = is_of_other caller (call_in what) lines ≡ false
 
--- the counts are those of the lines; each call that they name has its caller, and those that they start are told
-pub record IsKept (lines : List Line) (driven bytes made time : ℕ) (owners : BTreeMap ℕ ℕ) (started : BTreeSet ℕ) : Type 0 where
+-- the counts are those of the lines; each call has the caller that named it, and whether it was started
+pub record IsKept (lines : List Line) (driven bytes made time : ℕ) (uses : List CallUse) : Type 0 where
   pub driven_is : driven ≡ driver_lines lines
   pub bytes_is : bytes ≡ data_lens lines
   pub made_is : made ≡ entries lines
   pub time_is : time ≡ latest lines
-  pub owners_is : (caller id : ℕ) → is_of_other caller id lines ≡ option_map_or (λ owner. not (owner == caller)) (get nat_cmp owners id) false
-  pub started_is : (id : ℕ) → contains nat_cmp started id ≡ is_started id lines
+  pub callers_is : (caller id : ℕ) → is_of_other caller id lines ≡ option_map_or (λ other. not (other == caller)) (use_of uses id).caller false
+  pub started_is : (id : ℕ) → (use_of uses id).started ≡ is_started id lines
   pub few_lines : length lines ≤ 199996
   pub few_driven : driven ≤ length lines
   pub few_bytes : bytes ≤ 8388608

@@ -4,6 +4,7 @@
 #![tactic(auto)]
 
 mod authority_search;
+mod call_uses;
 pub mod cause;
 mod fields;
 mod forms;

@@ -1,23 +1,16 @@
 //! Lines of a session's bytes.
-ghost use Rattle.std.specs.Prelude.{◌≡◌, ◌∷◌, ◌<◌, ◌==◌, [], length, IfNone, IfSome};
-ghost use Rattle.std.specs.List.{position};
+ghost use Rattle.std.specs.Prelude.{◌≡◌, ◌∷◌, ◌<◌, [], length, IfNone, IfSome};
 ghost use Rattle.xds_name.specs.NameTexts.{cut_at, seen_pair};
 ghost use Rattle.session_lines.specs.Lines.{is_driver, is_driver_line, is_gate, lines_of};
 
-/// The place of the first such byte.
-fn place_of(byte: u8, bytes: &[u8]) -> Option<usize>
-    ensures place { result ≡ position (λ b. b == byte) bytes.now }
-    ensures within { IfSome result (λ at. at < length bytes.now) }
-{
-    bytes.iter().position(|b| *b == byte)
-}
+use line_output::find_byte;
 
 /// What stands before and after the first such byte.
 fn cut_at(byte: u8, bytes: &[u8]) -> Option<(&[u8], &[u8])>
     ensures parts { seen_pair result ≡ cut_at byte bytes.now }
     ensures shorter { IfSome result (λ p. length p.1.now < length bytes.now) }
 {
-    match place_of(byte, bytes) {
+    match find_byte(byte, bytes) {
         Some(at) => Some((bytes.split_at(at).0, bytes.split_at(at + 1).1)),
         None => None,
     }

@@ -1,16 +1,14 @@
 //! The reader of lines from line 5 on.
-ghost use Rattle.std.specs.Prelude.{◌≡◌, ◌+◌, ◌≤◌, ◌∷◌, ◌||◌, [], ℕ, false, length, max, nat_le, reverse, IfOk};
-ghost use Rattle.std.specs.BTreeMap.{get};
-ghost use Rattle.std.specs.BTreeSet.{contains};
-ghost use Rattle.std.specs.Ordering.{nat_cmp};
-ghost use Rattle.session_lines.specs.Before.{data_len, data_lens, entries, is_of_other, is_started, latest, starts};
-ghost use Rattle.session_lines.specs.KeptSession.{Fits, IsOwned, owner_with};
+ghost use Rattle.std.specs.Prelude.{◌≡◌, ◌+◌, ◌≤◌, ◌∷◌, [], false, length, max, nat_le, reverse, IfOk};
+ghost use Rattle.session_lines.specs.Before.{data_len, data_lens, entries, is_of_other, is_started, latest};
+ghost use Rattle.session_lines.specs.KeptSession.{Fits, IsOfNoOther};
 ghost use Rattle.session_lines.specs.Works.{GivesLine, bytes, caller_of, call_of, commit, endpoint, gate_of, is_too_many, line_of, line_with, lost, moment, opened, pick, start, word_of, work_of};
 ghost use Rattle.session_lines.specs.Session.{Gives, with_line};
 ghost use Rattle.session_lines.specs.SessionViews.{form_in, words_in};
 ghost use Rattle.xds_bootstrap.specs.Authorities.{AreAuthorities};
 ghost use Rattle.xds_name.specs.NameTexts.{seen};
 
+use crate::call_uses::{CallUse, use_of, with_work};
 use crate::cause::{Cause, LineFault, SessionFault};
 use crate::fields::fields_in;
 use crate::forms::{Form, StartWords, form_of};
@@ -23,7 +21,6 @@ use crate::word_values::{
 };
 use crate::words::Words;
 use std::alloc::Global;
-use std::collections::{BTreeMap, BTreeSet};
 use std::marker::Model;
 use xc_base::{Call, CallId, Memory, Shared, Text, Time};
 use xds_bootstrap::Bootstrap;
@@ -50,8 +47,7 @@ pub struct Reader {
     bytes: usize,
     entries: usize,
     time: u64,
-    owners: BTreeMap<u32, u16>,
-    started: BTreeSet<u32>,
+    uses: Vec<CallUse>,
 }
 
 // Contracts see the lines, the newest first.
@@ -64,7 +60,7 @@ impl Model for Reader {
 
     ghost view = { λ r. reverse r.lines.items };
 
-    ghost invariant = { λ r. IsKept (reverse r.lines.items) r.driver_lines r.bytes r.entries r.time r.owners r.started };
+    ghost invariant = { λ r. IsKept (reverse r.lines.items) r.driver_lines r.bytes r.entries r.time r.uses.items };
 }
 
 impl Reader {
@@ -79,8 +75,7 @@ impl Reader {
             bytes: 0,
             entries: 0,
             time: 0,
-            owners: BTreeMap::new(alloc),
-            started: BTreeSet::new(alloc),
+            uses: Vec::new(alloc),
         }
     }
 
@@ -131,8 +126,8 @@ impl Reader {
     fn is_of_other(&self, caller: u16, id: u32) -> bool
         ensures { result ≡ is_of_other caller id self.now }
     {
-        match self.owners.get(&id) {
-            Some(owner) => *owner != caller,
+        match use_of(&self.uses, id).caller {
+            Some(other) => other != caller,
             None => false,
         }
     }
@@ -141,7 +136,7 @@ impl Reader {
     fn is_started(&self, id: u32) -> bool
         ensures { result ≡ is_started id self.now }
     {
-        self.started.contains(&id)
+        use_of(&self.uses, id).started
     }
 
     /// A line that opens the stream of an authority.
@@ -326,11 +321,10 @@ impl Reader {
     fn with_line(self, line: Line) -> Result<Reader, Memory>
         requires few { length self ≤ 199995 }
         requires bytes { data_lens self + data_len line.work ≤ 8388608 }
-        requires call { IsOwned line.work self }
+        requires call { IsOfNoOther line.work self }
         ensures { IfOk result (λ reader. reader ≡ line ∷ self) }
     {
-        let owners = with_owner(self.owners, &line.work)?;
-        let started = with_started(self.started, &line.work)?;
+        let uses = with_work(self.uses, &line.work)?;
         let driver_lines = line.work.driver_lines() + self.driver_lines;
         let bytes = line.work.data_len() + self.bytes;
         let entries = line.work.entries() + self.entries;
@@ -344,8 +338,7 @@ impl Reader {
             bytes,
             entries,
             time,
-            owners,
-            started,
+            uses,
         })
     }
 }
@@ -399,34 +392,5 @@ fn gate_of(number: u32, gate: Option<&str>) -> Result<Option<u32>, LineFault>
     match number_within(u64::from(FIRST), u64::from(number - 1), word) {
         Some(gate) => Ok(Some(gate as u32)),
         None => Err(LineFault::Because(Cause::Gate)),
-    }
-}
-
-/// The callers of calls, with that of one more line.
-fn with_owner(mut owners: BTreeMap<u32, u16>, work: &Work) -> Result<BTreeMap<u32, u16>, Memory>
-    ensures { IfOk result (λ after. (id : ℕ) → get nat_cmp after id ≡ owner_with work.now id (get nat_cmp owners id)) }
-{
-    match work {
-        Work::Driver(_) => Ok(owners),
-        Work::Caller { caller, act } => {
-            owners.insert(act.call().0, *caller)?;
-            Ok(owners)
-        }
-    }
-}
-
-/// The calls that have started, with that of one more line.
-fn with_started(mut started: BTreeSet<u32>, work: &Work) -> Result<BTreeSet<u32>, Memory>
-    ensures { IfOk result (λ after. (id : ℕ) → contains nat_cmp after id ≡ (starts id work.now || contains nat_cmp started id)) }
-{
-    match work {
-        Work::Caller {
-            act: Act::Start(call),
-            ..
-        } => {
-            started.insert(call.get().id.0)?;
-            Ok(started)
-        }
-        Work::Driver(_) | Work::Caller { .. } => Ok(started),
     }
 }

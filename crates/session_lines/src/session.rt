@@ -1,6 +1,6 @@
 //! What a session says.
 ghost use Rattle.std.specs.Prelude.{◌≡◌, if◌then◌else◌};
-ghost use Rattle.session_lines.specs.Before.{call_in, data_len, driver_bytes, driver_entries, driver_time, entries_of, act_entries, is_driven, time_in};
+ghost use Rattle.session_lines.specs.Before.{call_in, data_len, driver_bytes, driver_entries, driver_time, entries_of, act_entries, is_driven, is_start, time_in};
 
 use xc_base::{Address, Authority, Call, CallId, List, Shared, State, Time};
 use xds_bootstrap::Bootstrap;
@@ -107,6 +107,16 @@ impl Act {
         match self {
             Act::Start(call) => call.get().id,
             Act::Pick { call, .. } | Act::Commit(call) => *call,
+        }
+    }
+
+    /// Whether it starts its call.
+    pub(crate) fn is_start(&self) -> bool
+        ensures { result ≡ is_start self.now }
+    {
+        match self {
+            Act::Start(_) => true,
+            Act::Pick { .. } | Act::Commit(_) => false,
         }
     }
 

@@ -8,12 +8,13 @@ ghost use Rattle.channel_calls.specs.ChannelPlans.{HasChannelPlan, HasNext, IsSh
 ghost use Rattle.turn_player.specs.TurnPlans.{IsTurnPlan};
 
 use crate::halts::Halt;
-use crate::lane_seats::{Place, Seat, UpCall};
+use crate::lane_seats::{Seat, UpCall};
 use crate::listed_patterns::ListedPatterns;
 use call_journal::{DriverEvent, Listed, Plan};
+use channel_calls::event_checks::prepared_event;
 use header_match::Patterns;
-use lane_checks::{has_to_wait, next_listed};
-use resource_check::{Prepared, prepare};
+use lane_checks::{GatedLine, has_to_wait, next_listed};
+use resource_check::Prepared;
 use std::alloc::Global;
 use std::marker::Model;
 use std::sync::Wait;
@@ -58,19 +59,8 @@ pub(crate) fn prepare_event<P: Patterns>(
     requires { IsShortIn event }
     ensures { IfOk result (λ coming. coming.event ≡ event) }
 {
-    let prepared = match &event {
-        DriverEvent::Response { payload, .. } => {
-            let mut listed = ListedPatterns::new(alloc, patterns, lines);
-            let prepared = prepare(alloc, payload.share()?, &mut listed)?;
-            Some(prepared)
-        }
-        DriverEvent::Opened(_)
-        | DriverEvent::Bytes { .. }
-        | DriverEvent::Lost(_)
-        | DriverEvent::Moment(_)
-        | DriverEvent::Endpoint { .. }
-        | DriverEvent::Sweep => None,
-    };
+    let mut listed = ListedPatterns::new(alloc, patterns, lines);
+    let prepared = prepared_event(alloc, &event, &mut listed)?;
     Ok(Coming { event, prepared })
 }
 
@@ -87,19 +77,19 @@ pub(crate) fn drive<J: Job, R: Wait + Sync, L: Ledger>(
     rt: &R,
     book: &mut Book<J>,
     lane: &mut Lane<J>,
-    place: Place,
+    at: GatedLine,
     coming: Coming,
     steps: &mut Steps<L>,
 ) -> Result<(), Halt>
     requires fits { HasChannelPlan J.plan (length J.boot.authorities) most_entries }
     requires driver { lane.old.actor ≡ 0 }
-    requires next { HasNext J.plan lane.old place.line place.after (ListedValue.Driver coming.event) }
+    requires next { HasNext J.plan lane.old at.line at.after (ListedValue.Driver coming.event) }
 {
-    if !may_go(book, lane, place.after) {
+    if !may_go(book, lane, at.after) {
         return Err(Halt::Strange);
     }
     let Coming { event, prepared } = coming;
-    match book.apply(rt, lane, place.line, event, prepared, steps) {
+    match book.apply(rt, lane, at.line, event, prepared, steps) {
         Ok(_) => Ok(()),
         Err(fault) => Err(Halt::from(fault)),
     }
@@ -109,20 +99,20 @@ pub(crate) fn drive<J: Job, R: Wait + Sync, L: Ledger>(
 pub(crate) fn pin<J: Job>(
     book: &mut Book<J>,
     lane: Lane<J>,
-    place: Place,
+    at: GatedLine,
     call: Shared<Call>,
 ) -> Result<Seat<J>, Halt>
     requires fits { HasChannelPlan J.plan (length J.boot.authorities) most_entries }
     requires caller { 0 < lane.actor }
-    requires next { HasNext J.plan lane place.line place.after (ListedValue.Start call) }
+    requires next { HasNext J.plan lane at.line at.after (ListedValue.Start call) }
 {
     let mut lane = lane;
     let _actors = book.actors();
-    if !may_go(book, &lane, place.after) {
+    if !may_go(book, &lane, at.after) {
         return Err(Halt::Strange);
     }
-    match book.pin(&mut lane, place.line, call) {
-        Ok(Some(token)) => Ok(Seat::Up(UpCall { lane, token, place })),
+    match book.pin(&mut lane, at.line, call) {
+        Ok(Some(token)) => Ok(Seat::Up(UpCall { lane, token, at })),
         Ok(None) => Ok(Seat::Free(lane)),
         Err(fault) => Err(Halt::from(fault)),
     }
@@ -136,14 +126,14 @@ pub(crate) fn hold<J: Job, L: Ledger>(
 ) -> Result<Seat<J>, Halt>
     requires fits { HasChannelPlan J.plan (length J.boot.authorities) most_entries }
 {
-    let UpCall { lane, token, place } = up;
+    let UpCall { lane, token, at } = up;
     let mut lane = lane;
     let _actors = book.actors();
-    if !may_go(book, &lane, place.after) {
+    if !may_go(book, &lane, at.after) {
         return Err(Halt::Strange);
     }
     let answer = token.route(steps)?;
-    match book.hold(&mut lane, place.line, token, answer, steps) {
+    match book.hold(&mut lane, at.line, token, answer, steps) {
         Ok(_) => Ok(Seat::Free(lane)),
         Err((fault, _)) => Err(Halt::from(fault)),
     }
@@ -153,17 +143,17 @@ pub(crate) fn hold<J: Job, L: Ledger>(
 pub(crate) fn pick<J: Job>(
     book: &mut Book<J>,
     lane: &mut Lane<J>,
-    place: Place,
+    at: GatedLine,
     call: CallId,
     word: u64,
 ) -> Result<(), Halt>
     requires caller { 0 < lane.old.actor }
-    requires next { HasNext J.plan lane.old place.line place.after (ListedValue.Pick call word) }
+    requires next { HasNext J.plan lane.old at.line at.after (ListedValue.Pick call word) }
 {
-    if !may_go(book, lane, place.after) {
+    if !may_go(book, lane, at.after) {
         return Err(Halt::Strange);
     }
-    match book.pick(lane, place.line, call, word) {
+    match book.pick(lane, at.line, call, word) {
         Ok(_) => Ok(()),
         Err(fault) => Err(Halt::from(fault)),
     }
@@ -173,16 +163,16 @@ pub(crate) fn pick<J: Job>(
 pub(crate) fn commit<J: Job>(
     book: &mut Book<J>,
     lane: &mut Lane<J>,
-    place: Place,
+    at: GatedLine,
     call: CallId,
 ) -> Result<(), Halt>
     requires caller { 0 < lane.old.actor }
-    requires next { HasNext J.plan lane.old place.line place.after (ListedValue.Commit call) }
+    requires next { HasNext J.plan lane.old at.line at.after (ListedValue.Commit call) }
 {
-    if !may_go(book, lane, place.after) {
+    if !may_go(book, lane, at.after) {
         return Err(Halt::Strange);
     }
-    match book.commit(lane, place.line, call) {
+    match book.commit(lane, at.line, call) {
         Ok(_) => Ok(()),
         Err(fault) => Err(Halt::from(fault)),
     }

@@ -1,20 +1,14 @@
 //! Where the lanes of actors are between their turns.
+use lane_checks::GatedLine;
 use std::marker::Model;
 use xds_book::{Job, Lane, Pinned};
-
-/// A line, and the line that has to end before it.
-#[derive(Clone, Copy)]
-pub(crate) struct Place {
-    pub(crate) line: u32,
-    pub(crate) after: Option<u32>,
-}
 
 /// The lane of a caller whose call has its pin up, with the token of the pin.
 #[derive(Drop)]
 pub struct UpCall<J: Job> {
     pub(crate) lane: Lane<J>,
     pub(crate) token: Pinned<J>,
-    pub(crate) place: Place,
+    pub(crate) at: GatedLine,
 }
 
 impl<J: Job> Model for UpCall<J> {
@@ -22,12 +16,12 @@ impl<J: Job> Model for UpCall<J> {
 
     ghost Value = { UpView };
 
-    ghost view = { λ u. record { lane = u.lane; token = u.token; line = u.place.line; after = u.place.after } };
+    ghost view = { λ u. record { lane = u.lane; token = u.token; line = u.at.line; after = u.at.after } };
 
-    ghost invariant = { λ u. IsUp J.plan (record { lane = u.lane; token = u.token; line = u.place.line; after = u.place.after }) };
+    ghost invariant = { λ u. IsUp J.plan (record { lane = u.lane; token = u.token; line = u.at.line; after = u.at.after }) };
 }
 
-/// The place of one actor.
+/// Where the lane of one actor is.
 #[derive(Drop)]
 pub enum Seat<J: Job> {
     /// No pin of the actor is up.

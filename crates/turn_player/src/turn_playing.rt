@@ -5,11 +5,11 @@ ghost use Rattle.turn_player.specs.TurnPlans.{IsTurnPlan};
 
 use crate::gated_steps::{commit, drive, hold, next_for, pick, pin, prepare_event};
 use crate::halts::Halt;
-use crate::lane_seats::{Place, Seat, UpCall};
+use crate::lane_seats::{Seat, UpCall};
 use call_journal::{Listed, ListedEvent, Plan};
 use header_match::Patterns;
-use lane_checks::has_to_wait;
-use report_turns::{Misplaced, Turn};
+use lane_checks::{GatedLine, has_to_wait};
+use report_turns::{EntryTurn, Misplaced};
 use session_player::shared_event;
 use std::alloc::Global;
 use std::mem;
@@ -25,7 +25,6 @@ pub struct Table<'b, J: Job, L: Ledger> {
     book: &'b mut Book<J>,
     seats: Vec<Seat<J>>,
     steps: Steps<L>,
-    is_swept: bool,
 }
 
 /// A seat for each of these lanes, in their order.
@@ -73,14 +72,14 @@ fn left_at<J: Job>(plan: &Plan, seat: &Seat<J>) -> Option<u32>
 {
     let line = match seat {
         Seat::Free(lane) => next_for(plan, lane)?.line,
-        Seat::Up(up) => up.place.line,
+        Seat::Up(up) => up.at.line,
         Seat::Away => return None,
     };
     if line == 0 { None } else { Some(line) }
 }
 
 /// Why a line can't be played by an actor whose next line is another one.
-fn misplaced(plan: &Plan, turn: Turn<'_>, next: Option<u32>) -> Misplaced {
+fn misplaced(plan: &Plan, turn: EntryTurn<'_>, next: Option<u32>) -> Misplaced {
     let actor = usize::from(turn.actor);
     match plan.actors.as_slice().get(actor) {
         Some(list) => misplaced_in(list.as_slice(), turn.line, next),
@@ -102,7 +101,6 @@ impl<'b, J: Job, L: Ledger> Table<'b, J, L> {
             book,
             seats,
             steps,
-            is_swept: false,
         })
     }
 
@@ -128,25 +126,20 @@ impl<'b, J: Job, L: Ledger> Table<'b, J, L> {
         first
     }
 
-    /// Whether the last sweep has had its turn.
-    pub fn is_swept(&self) -> bool {
-        self.is_swept
-    }
-
     /// Sets an actor down again.
-    fn sit(&mut self, turn: Turn<'_>, seat: Seat<J>) {
-        if let Some(place) = self.seats.get_mut(usize::from(turn.actor)) {
-            *place = seat;
+    fn sit(&mut self, turn: EntryTurn<'_>, seat: Seat<J>) {
+        if let Some(old) = self.seats.get_mut(usize::from(turn.actor)) {
+            *old = seat;
         }
     }
 
     /// Plays the turn of an actor, or says why it can't be played. A response refuses the patterns that the report lists
-    /// behind it. The last sweep isn't made, but noted.
+    /// behind it. The last sweep isn't made, but it is told whether it may be.
     pub fn play<R: Wait + Sync, P: Patterns>(
         &mut self,
         rt: &R,
         plan: &Plan,
-        turn: Turn<'_>,
+        turn: EntryTurn<'_>,
         patterns: &mut P,
     ) -> Result<Option<Misplaced>, Halt>
         requires plan { IsTurnPlan J.plan (length J.boot.authorities) plan.now.actors }
@@ -166,11 +159,11 @@ impl<'b, J: Job, L: Ledger> Table<'b, J, L> {
         &mut self,
         plan: &Plan,
         up: UpCall<J>,
-        turn: Turn<'_>,
+        turn: EntryTurn<'_>,
     ) -> Result<Option<Misplaced>, Halt>
         requires plan { IsTurnPlan J.plan (length J.boot.authorities) plan.now.actors }
     {
-        let line = up.place.line;
+        let line = up.at.line;
         if line != turn.line {
             return Ok(Some(misplaced(plan, turn, Some(line))));
         }
@@ -185,7 +178,7 @@ impl<'b, J: Job, L: Ledger> Table<'b, J, L> {
         rt: &R,
         plan: &Plan,
         lane: Lane<J>,
-        turn: Turn<'_>,
+        turn: EntryTurn<'_>,
         patterns: &mut P,
     ) -> Result<Option<Misplaced>, Halt>
         requires plan { IsTurnPlan J.plan (length J.boot.authorities) plan.now.actors }
@@ -197,7 +190,7 @@ impl<'b, J: Job, L: Ledger> Table<'b, J, L> {
             return Ok(Some(misplaced(plan, turn, Some(listed.line))));
         }
         if listed.line == 0 {
-            return Ok(self.note_sweep(plan, lane, turn));
+            return Ok(self.pass_sweep(plan, lane, turn));
         }
         if let Some(after) = listed.after
             && has_to_wait(self.book, &lane, listed.after)
@@ -209,16 +202,13 @@ impl<'b, J: Job, L: Ledger> Table<'b, J, L> {
         Ok(None)
     }
 
-    /// Notes the last sweep, where all lines have been played to their end.
-    fn note_sweep(&mut self, plan: &Plan, lane: Lane<J>, turn: Turn<'_>) -> Option<Misplaced>
+    /// Passes the last sweep, which comes too early where a line isn't played to its end.
+    fn pass_sweep(&mut self, plan: &Plan, lane: Lane<J>, turn: EntryTurn<'_>) -> Option<Misplaced>
         requires plan { IsTurnPlan J.plan (length J.boot.authorities) plan.now.actors }
     {
         self.sit(turn, Seat::Free(lane));
-        if let Some(line) = self.left_line(plan) {
-            return Some(Misplaced::Early(line));
-        }
-        self.is_swept = true;
-        None
+        let line = self.left_line(plan)?;
+        Some(Misplaced::Early(line))
     }
 
     /// Makes what is listed next for a lane.
@@ -236,7 +226,7 @@ impl<'b, J: Job, L: Ledger> Table<'b, J, L> {
     {
         let mut lane = lane;
         let is_driver = lane.actor() == 0;
-        let place = Place {
+        let at = GatedLine {
             line: listed.line,
             after: listed.after,
         };
@@ -244,16 +234,16 @@ impl<'b, J: Job, L: Ledger> Table<'b, J, L> {
             ListedEvent::Driver(event) if is_driver => {
                 let event = shared_event(event)?;
                 let coming = prepare_event(self.alloc, event, lines, patterns)?;
-                drive(rt, self.book, &mut lane, place, coming, &mut self.steps)?;
+                drive(rt, self.book, &mut lane, at, coming, &mut self.steps)?;
                 Ok(Seat::Free(lane))
             }
-            ListedEvent::Start(call) if !is_driver => { pin(self.book, lane, place, call.share()?) }
+            ListedEvent::Start(call) if !is_driver => { pin(self.book, lane, at, call.share()?) }
             ListedEvent::Pick { call, word } if !is_driver => {
-                pick(self.book, &mut lane, place, *call, *word)?;
+                pick(self.book, &mut lane, at, *call, *word)?;
                 Ok(Seat::Free(lane))
             }
             ListedEvent::Commit(call) if !is_driver => {
-                commit(self.book, &mut lane, place, *call)?;
+                commit(self.book, &mut lane, at, *call)?;
                 Ok(Seat::Free(lane))
             }
             _ => Err(Halt::Strange),

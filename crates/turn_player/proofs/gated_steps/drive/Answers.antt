@@ -8,6 +8,6 @@ use Rattle.turn_player.proofs.gated_steps.drive.Goals as goal
 
 pub apply-requires-clause-known : goal.apply-requires-clause-known
 apply-requires-clause-known g c κs within =
-    let next : HasNext g.J.Job.plan c.args.lane.now c.args.place.line c.args.place.after (ListedEvent.Driver c.coming.inside.event) =
-    subst (λ (v : ComingView). HasNext g.J.Job.plan c.args.lane.now c.args.place.line c.args.place.after (ListedEvent.Driver v.event)) (sym c.coming.view_is) c.requires.next in
-    (drivable g.J.Job.plan (length g.J.Job.boot.authorities) most_entries c.args.lane.now 0 c.args.place.line c.args.place.after c.coming.inside.event c.requires.fits next).0
+    let next : HasNext g.J.Job.plan c.args.lane.now c.args.at.line c.args.at.after (ListedEvent.Driver c.coming.inside.event) =
+    subst (λ (v : ComingView). HasNext g.J.Job.plan c.args.lane.now c.args.at.line c.args.at.after (ListedEvent.Driver v.event)) (sym c.coming.view_is) c.requires.next in
+    (drivable g.J.Job.plan (length g.J.Job.boot.authorities) most_entries c.args.lane.now 0 c.args.at.line c.args.at.after c.coming.inside.event c.requires.fits next).0

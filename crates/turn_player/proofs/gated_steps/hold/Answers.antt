@@ -12,7 +12,7 @@ use Rattle.turn_player.proofs.gated_steps.hold.Goals as goal
 pub hold-requires-clause-up : goal.hold-requires-clause-up
 hold-requires-clause-up g c =
     let own : IsLaneOf c.up.inside.lane c.args.book.now = search (rules, c.if-not-may_go.ensures.own) in
-    let open_now : IsOpen c.up.inside.place.after c.args.book.now.entries = search (rules, c.if-not-may_go.ensures.open) in
-    call_is_up (setting_of g.J.Job.boot g.J.Job.target) g.J.Job.plan (length g.J.Job.boot.authorities) c.up.inside.lane c.up.inside.place.line c.up.inside.token.call c.args.book.now c.requires.fits own
+    let open_now : IsOpen c.up.inside.at.after c.args.book.now.entries = search (rules, c.if-not-may_go.ensures.open) in
+    call_is_up (setting_of g.J.Job.boot g.J.Job.target) g.J.Job.plan (length g.J.Job.boot.authorities) c.up.inside.lane c.up.inside.at.line c.up.inside.token.call c.args.book.now c.requires.fits own
     c.actors-actors.ensures.counted c.actors-actors.ensures.played
-    (next_step g.J.Job.plan c.up.inside.lane 1 c.up.inside.place.line c.up.inside.place.after (ListedEvent.Start c.up.inside.token.call) (played.caller (CallerEvent.Hold c.up.inside.token.call)) c.args.book.now.entries c.up.invariant.listed (refl, refl) open_now)
+    (next_step g.J.Job.plan c.up.inside.lane 1 c.up.inside.at.line c.up.inside.at.after (ListedEvent.Start c.up.inside.token.call) (played.caller (CallerEvent.Hold c.up.inside.token.call)) c.args.book.now.entries c.up.invariant.listed (refl, refl) open_now)

@@ -12,15 +12,15 @@ use Rattle.turn_player.proofs.gated_steps.pin.Goals as goal
 pub pin-requires-clause-free : goal.pin-requires-clause-free
 pin-requires-clause-free g c =
     let own : IsLaneOf c.args.lane c.args.book.now = search (rules, c.if-not-may_go.ensures.own) in
-    let open_now : IsOpen c.args.place.after c.args.book.now.entries = search (rules, c.if-not-may_go.ensures.open) in
-    (call_is_new (setting_of g.J.Job.boot g.J.Job.target) g.J.Job.plan (length g.J.Job.boot.authorities) c.args.lane c.args.place.line c.args.call c.args.book.now c.requires.fits own
+    let open_now : IsOpen c.args.at.after c.args.book.now.entries = search (rules, c.if-not-may_go.ensures.open) in
+    (call_is_new (setting_of g.J.Job.boot g.J.Job.target) g.J.Job.plan (length g.J.Job.boot.authorities) c.args.lane c.args.at.line c.args.call c.args.book.now c.requires.fits own
     c.actors-actors.ensures.counted c.actors-actors.ensures.played
-    (next_step g.J.Job.plan c.args.lane 0 c.args.place.line c.args.place.after (ListedEvent.Start c.args.call) (played.caller (CallerEvent.Pin c.args.call)) c.args.book.now.entries c.requires.next (refl, refl) open_now)).free
+    (next_step g.J.Job.plan c.args.lane 0 c.args.at.line c.args.at.after (ListedEvent.Start c.args.call) (played.caller (CallerEvent.Pin c.args.call)) c.args.book.now.entries c.requires.next (refl, refl) open_now)).free
 
 pub pin-requires-clause-idle : goal.pin-requires-clause-idle
 pin-requires-clause-idle g c =
     let own : IsLaneOf c.args.lane c.args.book.now = search (rules, c.if-not-may_go.ensures.own) in
-    let open_now : IsOpen c.args.place.after c.args.book.now.entries = search (rules, c.if-not-may_go.ensures.open) in
-    (call_is_new (setting_of g.J.Job.boot g.J.Job.target) g.J.Job.plan (length g.J.Job.boot.authorities) c.args.lane c.args.place.line c.args.call c.args.book.now c.requires.fits own
+    let open_now : IsOpen c.args.at.after c.args.book.now.entries = search (rules, c.if-not-may_go.ensures.open) in
+    (call_is_new (setting_of g.J.Job.boot g.J.Job.target) g.J.Job.plan (length g.J.Job.boot.authorities) c.args.lane c.args.at.line c.args.call c.args.book.now c.requires.fits own
     c.actors-actors.ensures.counted c.actors-actors.ensures.played
-    (next_step g.J.Job.plan c.args.lane 0 c.args.place.line c.args.place.after (ListedEvent.Start c.args.call) (played.caller (CallerEvent.Pin c.args.call)) c.args.book.now.entries c.requires.next (refl, refl) open_now)).idle
+    (next_step g.J.Job.plan c.args.lane 0 c.args.at.line c.args.at.after (ListedEvent.Start c.args.call) (played.caller (CallerEvent.Pin c.args.call)) c.args.book.now.entries c.requires.next (refl, refl) open_now)).idle
