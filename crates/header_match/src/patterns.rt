@@ -51,7 +51,14 @@ impl<T: Drop> From<AllocFailed<T>> for PatternFault {
     }
 }
 
+/// An error of `regex` other than want of memory refuses the text.
 impl From<regex::Error> for PatternFault {
+    ghost use Rattle.std.specs.Prelude.{◌≡◌, ◌↔◌};
+    ghost use Rattle.regex.specs.declared.error.Error.TheVariants.{OutOfMemory};
+    ghost use Rattle.header_match.specs.declared.patterns.PatternFault.TheVariants.{Memory};
+
+    ghost from_gives = { λ error fault. (fault ≡ Memory) ↔ (error ≡ OutOfMemory) };
+
     fn from(error: regex::Error) -> PatternFault {
         match error {
             regex::Error::OutOfMemory => PatternFault::Memory,
