@@ -1,5 +1,5 @@
 //! The counts of the actors, and the lines that have ended.
-ghost use Rattle.std.specs.Prelude.{◌≡◌, ◌<◌, ◌≤◌, ◌-◌, ◌^◌, ◌∷◌, ℕ, List, [], length, slice_get, slice_set, IfOk, IfSome, Some, false, true, replicate};
+ghost use Rattle.std.specs.Prelude.{◌≡◌, ◌<◌, ◌≤◌, ◌-◌, ◌^◌, ◌∷◌, ◌↔◌, ℕ, List, [], length, slice_get, slice_set, IfOk, IfSome, IsSome, Some, false, true, replicate};
 ghost use Rattle.call_journal.specs.declared.entry.Entry.{Entry as EntryValue};
 ghost use Rattle.call_journal.specs.declared.plan.Count.{Count as CountValue};
 ghost use Rattle.book_progress.specs.ActorCounts.{count_of, no_count};
@@ -138,7 +138,8 @@ impl Progress {
 
     /// Whether a line has ended, where it is one of the first.
     pub fn has_ended(&self, line: u32) -> Option<bool>
-        ensures { (actors lines : ℕ) (history : List EntryValue) → self.now ≡ tally_of actors lines history → IfSome result (λ ended. ended ≡ has_ended line history) }
+        ensures first { IsSome result ↔ (line < length self.now.ended) }
+        ensures ended { (actors lines : ℕ) (history : List EntryValue) → self.now ≡ tally_of actors lines history → IfSome result (λ ended. ended ≡ has_ended line history) }
     {
         if (line as usize) < self.ended.len() {
             let ended = self.mark_at(line);
