@@ -1,5 +1,5 @@
 //! A report is compared with what was played of its session.
-ghost use Rattle.std.specs.Prelude.{◌≡◌, ◌≤◌, length, IfOk, IsTrue, None, Ok, Some};
+ghost use Rattle.std.specs.Prelude.{◌≡◌, ◌≤◌, ◌↔◌, length, IfOk, IsTrue, None, Ok, Some};
 ghost use Rattle.snapshot_store.specs.Tickets.{values_of};
 ghost use Rattle.xds_history.specs.Pages.{pages};
 ghost use Rattle.xds_history.specs.References.{snapshots_of};
@@ -7,6 +7,7 @@ ghost use Rattle.xds_history.specs.Setting.{setting_of};
 ghost use Rattle.legal_history.specs.Legal.{Legal};
 ghost use Rattle.book_progress.specs.ProgressKept.{most_entries};
 ghost use Rattle.report_writer.specs.JournalReport.{journal_report};
+ghost use Rattle.text_law.specs.TextLaw.{text_of};
 ghost use Rattle.report_compare.specs.LegalReports.{IsReportOf};
 
 use crate::mistakes::Mistake;
@@ -22,7 +23,7 @@ use xc_base::{BytesSink, Memory, Sink};
 
 /// Whether a text is this one, byte for byte.
 fn is_same(one: &[u8], other: &[u8]) -> bool
-    ensures { IsTrue result → one.now ≡ other.now }
+    ensures { IsTrue result ↔ (one.now ≡ other.now) }
 {
     one == other
 }
@@ -54,7 +55,7 @@ fn played_text(alloc: Global, part: PlayedPart<'_>) -> Result<BytesSink, Memory>
 }
 
 /// Compares a report with the text of a legal history, in which the actors act in the order of the report. None is that they
-/// are the same.
+/// are the same, and only that.
 pub fn compare(
     alloc: Global,
     part: PlayedPart<'_>,
@@ -64,6 +65,7 @@ pub fn compare(
     requires snapshots { values_of part.history.now.tickets ≡ snapshots_of (pages (setting_of part.session.now.boot part.session.now.target) part.journal.now.entries) }
     requires few { length part.history.now.tickets ≤ most_entries }
     ensures legal { result ≡ Ok None → IsReportOf part.entry.session.now report.now }
+    ensures same { IfOk result (λ mistake. (mistake ≡ None) ↔ (text_of part.entry.session.now part.entry.journal.now.entries ≡ report.now)) }
 {
     one_report();
     let text = played_text(alloc, part)?;
