@@ -1,1 +1,2 @@
 pub mod TreeRows
+pub mod OneMarked

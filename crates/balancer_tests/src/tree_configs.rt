@@ -1,5 +1,5 @@
 //! A configuration of one cluster whose endpoints aren't there.
-ghost use Rattle.std.specs.Prelude.{IfOk};
+ghost use Rattle.std.specs.Prelude.{◌≡◌, length, IfOk};
 ghost use Rattle.xds_config.specs.Configs.{AreLawfulLeaves, IsLawfulConfig};
 
 use std::alloc::Global;
@@ -23,7 +23,8 @@ fn leaves(alloc: Global) -> Result<Leaves, Fail>
 
 /// A configuration of one cluster. Its calls have no routes.
 pub fn config(alloc: Global) -> Result<Shared<Config>, Fail>
-    ensures { IfOk result IsLawfulConfig }
+    ensures lawful { IfOk result IsLawfulConfig }
+    ensures one { IfOk result (λ config. length config.clusters ≡ 1) }
 {
     let leaves = Shared::new(alloc, leaves(alloc)?)?;
     let entry = ClusterEntry {

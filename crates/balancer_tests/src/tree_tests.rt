@@ -20,10 +20,13 @@ fn trees_take_a_configuration_and_reports(rt: HostRuntime) -> Result<(), Fail> {
     let mut reports = BTreeMap::new(rt.alloc());
     reports.insert(address(rt.alloc(), "10.0.0.1:80")?, State::Ready)?;
     let mut trees = Trees::new(rt.alloc());
-    let first = trees.update(&config, &reports, Time(0), &[])?;
-    assert!(rt; is_absent(&first) && first.changed.iter().all(|changed| *changed));
+    let first = trees.update(&config, &reports, Time(0), &[], &[true])?;
+    assert!(rt; is_absent(&first.seen) && first.seen.changed.iter().all(|changed| *changed));
+    assert!(rt; first.anew.iter().all(|anew| *anew));
     let second = trees.update_states(&reports, Time(1), &[])?;
     assert!(rt; is_absent(&second) && second.changed.iter().all(|changed| !*changed));
+    let third = trees.update(&config, &reports, Time(2), &[], &[true])?;
+    assert!(rt; is_absent(&third.seen) && third.anew.iter().all(|anew| !*anew));
     assert!(rt; trees.localities(0)?.is_empty());
     Ok(())
 }

@@ -6,3 +6,4 @@ pub mod SubscribedLemmas
 pub mod PublishedLemmas
 pub mod SteppedLemmas
 pub mod StillLemmas
+pub mod EntryLemmas

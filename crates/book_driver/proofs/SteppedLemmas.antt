@@ -69,10 +69,10 @@ pub came_with_trees : (s : Setting) (event : DriverEvent) (past : List Entry) (t
 came_with_trees s event past t config trees same = record { trees_are = trees; config_is = same }
 
 pub stepped_at : (s : Setting) (past : List Entry) (event : DriverEvent) (prepared : Option Prepared) (r : Renewal) (v : Subscriptions) (published : Option Published) (t : ConfiguredTrees) (before : Option Config) →
-    before ≡ config_now (pages s past) → IsAnsweredAt s past event prepared r v → IsShownBy s event past (option_or r.made before) published → t.config ≡ option_or r.made before → IfSome t.config IsLawfulConfig →
+    before ≡ config_now (pages s past) → v.watcher.deps.shown ≡ option_or r.made before → IsAnsweredAt s past event prepared r v → IsShownBy s event past (option_or r.made before) published → t.config ≡ option_or r.made before → IfSome t.config IsLawfulConfig →
     ((line : ℕ) (page : Page) → IsPageOf event past (pages s past) (option_or r.made before) page → AreTreesAt (driven 0 line event (reply_in (stepped_of r published)) ∷ past) (page ∷ pages s past) t.trees) →
     IsStepAt s past event prepared (stepped_of r published) (record { subscriptions = v; trees = t })
-stepped_at s past event prepared r v published t before same is shown_before config_before lawful keeps_before =
+stepped_at s past event prepared r v published t before same made_is is shown_before config_before lawful keeps_before =
     let shown : IsShownBy s event past (option_or r.made (config_now (pages s past))) published = subst (λ o. IsShownBy s event past (option_or r.made o) published) same shown_before in
     let config : t.config ≡ option_or r.made (config_now (pages s past)) = config_before ∙ ap (option_or r.made) same in
     let keeps : (line : ℕ) (page : Page) → IsPageOf event past (pages s past) (option_or r.made (config_now (pages s past))) page → AreTreesAt (driven 0 line event (reply_in (stepped_of r published)) ∷ past) (page ∷ pages s past) t.trees =
@@ -86,6 +86,7 @@ stepped_at s past event prepared r v published t before same is shown_before con
           record {
             subscribed = is.kept line (option_map (λ p. p.number) published);
             configured = configured_after s past line event prepared r v published t is shown config lawful (keeps line);
+            shown_is = made_is ∙ sym config_before;
           };
     }
 
@@ -108,4 +109,5 @@ callers_leave_driver s past actor line event reply d at = record {
     config_is = at.configured.config_is;
     lawful = at.configured.lawful;
   };
+  shown_is = at.shown_is;
 }

@@ -1,5 +1,5 @@
 -- What is watched and settled, through an entry.
-use Rattle.std.proofs.Common.{◌≡◌, ℕ, List, [], ◌∷◌, Option, Some, None, refl, sym, ◌∙◌, subst, IsTrue}
+use Rattle.std.proofs.Common.{◌≡◌, ℕ, Bool, List, [], ◌∷◌, Option, Some, None, refl, sym, ◌∙◌, subst, IsTrue}
 use Rattle.std.specs.Prelude.{IfSome}
 use Rattle.xc_base.specs.declared.names.Key.{Key}
 use Rattle.ads_stream.specs.declared.verdict.Verdict.{Verdict}
@@ -15,6 +15,8 @@ use Rattle.xds_history.specs.declared.page.Page.{Page}
 use Rattle.xds_history.specs.Page.{watched_now}
 use Rattle.xds_history.specs.References.{references}
 use Rattle.xds_history.specs.Pages.{called, driven, pages}
+use Rattle.std.specs.declared.alloc.Global.{Global}
+use Rattle.std.specs.declared.vec.Vec.{Vec}
 use Rattle.xds_history.specs.HistoryLaws.{is_report}
 use Rattle.book_fates.specs.FatesKept.{keys_in}
 use Rattle.driver_step.specs.SettledKeys.{ChangesNoKey, IsSettledAt, as_settled}
@@ -55,7 +57,7 @@ renewal_answers s past event prepared r w names is same = record {
 quiet_told : (s : Setting) (past : List Entry) (event : DriverEvent) (prepared : Option Prepared) → IsTrue (is_report event) → IsToldBy s past event prepared Verdict.Done []
 quiet_told s past (DriverEvent.Opened a) prepared is = absurd (cc is)
 quiet_told s past (DriverEvent.Response a payload) prepared is = absurd (cc is)
-quiet_told s past (DriverEvent.Bytes a how) prepared is = absurd (cc is)
+quiet_told s past (DriverEvent.Bytes a how) prepared is = record { verdict_is = refl; refused_are = refl; texts_are = refl }
 quiet_told s past (DriverEvent.Lost a) prepared is = absurd (cc is)
 quiet_told s past (DriverEvent.Moment time) prepared is = absurd (cc is)
 quiet_told s past (DriverEvent.Endpoint address state) prepared is = record { verdict_is = refl; refused_are = refl; texts_are = refl }
@@ -71,11 +73,11 @@ watched_still s past line event reply least w is settled none at = record {
   right = at.right;
 }
 
-still : (s : Setting) (past : List Entry) (event : DriverEvent) (prepared : Option Prepared) (v : Subscriptions) (kept : Settled) → AreSubscribedAt s past v → IsTrue (is_report event) → IsSettledAt s past (pages s past) (references (pages s past)) kept.missing →
-    kept.references ≡ references (pages s past) → IsAnsweredAt s past event prepared (quiet_answer kept.missing) (record { watcher = v.watcher; last = Some kept })
-still s past event prepared v kept at is settled same =
+still : (s : Setting) (past : List Entry) (event : DriverEvent) (prepared : Option Prepared) (v : Subscriptions) (kept : Settled) (marks : Vec Bool Global) → AreSubscribedAt s past v → IsTrue (is_report event) → IsSettledAt s past (pages s past) (references (pages s past)) kept.missing →
+    kept.references ≡ references (pages s past) → IsAnsweredAt s past event prepared (quiet_answer kept.missing marks) (record { watcher = v.watcher; last = Some kept })
+still s past event prepared v kept marks at is settled same =
     let ps : List Page = pages s past in
-    let r : Renewal = quiet_answer kept.missing in
+    let r : Renewal = quiet_answer kept.missing marks in
     let no : ChangesNoKey s past ps event (reply_by r None) kept.missing = reports_change_no_key s past ps event (reply_by r None) kept.missing is settled in record {
       told = quiet_told s past event prepared is;
       reached = keys_in (watched_now ps);
@@ -91,12 +93,12 @@ still s past event prepared v kept at is settled same =
           };
     }
 
-pub quiet_answer_is : (s : Setting) (past : List Entry) (event : DriverEvent) (prepared : Option Prepared) (names : Option (List Name)) (v : Subscriptions) (kept : Settled) → AreSubscribedAt s past v → names_with names v.last ≡ references (pages s past) →
-    IsRepeat (is_report event) names v.last kept → IsAnsweredAt s past event prepared (quiet_answer kept.missing) (record { watcher = v.watcher; last = Some kept })
-quiet_answer_is s past event prepared names v kept at refers by =
+pub quiet_answer_is : (s : Setting) (past : List Entry) (event : DriverEvent) (prepared : Option Prepared) (names : Option (List Name)) (v : Subscriptions) (kept : Settled) (marks : Vec Bool Global) → AreSubscribedAt s past v → names_with names v.last ≡ references (pages s past) →
+    IsRepeat (is_report event) names v.last kept → IsAnsweredAt s past event prepared (quiet_answer kept.missing marks) (record { watcher = v.watcher; last = Some kept })
+quiet_answer_is s past event prepared names v kept marks at refers by =
     let same : kept.references ≡ references (pages s past) = sym by.same ∙ refers in
     let settled : IsSettledAt s past (pages s past) kept.references kept.missing = subst (λ o. IfSome o (λ l. IsSettledAt s past (pages s past) l.references l.missing)) by.kept_is at.settled in
-    still s past event prepared v kept at by.quiet (subst (λ ns. IsSettledAt s past (pages s past) ns kept.missing) same settled) same
+    still s past event prepared v kept marks at by.quiet (subst (λ ns. IsSettledAt s past (pages s past) ns kept.missing) same settled) same
 
 -- ---- a caller's entry
 

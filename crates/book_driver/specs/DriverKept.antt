@@ -31,6 +31,8 @@ use Rattle.book_driver.specs.ShownTrees.{AreConfiguredAt, IsPublication, number_
 pub record IsDriverAt (s : Setting) (past : List Entry) (d : Driver) : Type 0 where
   pub subscribed : AreSubscribedAt s past d.subscriptions
   pub configured : AreConfiguredAt s past d.trees
+  -- the configuration that was made last is the one that stands
+  pub shown_is : d.subscriptions.watcher.deps.shown ≡ d.trees.config
 
 -- it is what is kept after some history
 pub record HasDriven (d : Driver) : Type 0 where

@@ -1,6 +1,7 @@
 -- The configuration and its trees, what is seen of them after an entry, and what is published of that.
 use Rattle.std.specs.Option.{option_or}
-use Rattle.std.specs.Prelude.{◌≡◌, ℕ, List, Option, None, Some, IfSome, option_and_then, option_map}
+use Rattle.std.specs.Prelude.{◌≡◌, ℕ, Bool, false, get_or, slice_get, List, Option, None, Some, IfSome, option_and_then, option_map}
+use Rattle.xds_config.specs.declared.config.ClusterEntry.{ClusterEntry}
 use Rattle.xds_config.specs.declared.config.Config.{Config}
 use Rattle.xds_config.specs.Configs.{IsLawfulConfig}
 use Rattle.cluster_tree.specs.declared.snapshot.Snapshot.{Snapshot}
@@ -13,7 +14,8 @@ use Rattle.xds_history.specs.Page.{config_now, latest, trees_now}
 use Rattle.xds_history.specs.Trees.{trees_after}
 use Rattle.xds_history.specs.Pages.{pages, present_after, snapshot_of}
 use Rattle.xds_history.specs.Right.{IsNumber, Shown, standing}
-use Rattle.book_trees.specs.TreesKept.{AreMarked, AreTreesAt, AreTreesWith, views_after}
+use Rattle.book_trees.specs.ReportedLaws.{stands_now}
+use Rattle.book_trees.specs.TreesKept.{AreTreesAt, AreTreesWith, StayInPlace, cluster_names, views_after}
 use Rattle.book_driver.specs.declared.configured_trees.ConfiguredTrees.{ConfiguredTrees}
 use Rattle.book_driver.specs.declared.configured_trees.Seen.{Seen}
 use Rattle.book_driver.specs.declared.configured_trees.Published.{Published}
@@ -29,6 +31,10 @@ pub record AreConfiguredWith (s : Setting) (event : DriverEvent) (past : List En
   pub trees_are : AreTreesWith event past (pages s past) t.trees
   pub config_is : t.config ≡ config_now (pages s past)
 
+-- entries without a mark are the same
+abbrev pub AreSameBut : List Bool → List ClusterEntry → List ClusterEntry → Type 0
+AreSameBut marks entries others = (place : ℕ) (entry : ClusterEntry) → slice_get others place ≡ Some entry → get_or marks place false ≡ false → slice_get entries place ≡ Some entry
+
 -- ---- the configuration that was made, where it isn't the one from before
 
 abbrev pub IsNews : Option Config → Option Config → Option Config → Type 0
@@ -40,11 +46,12 @@ IsNews made before (Some config) = (made ≡ Some config) × (before ≡ Some co
 -- of the trees of this configuration
 pub record IsSeen (s : Setting) (event : DriverEvent) (past : List Entry) (config : Config) (seen : Seen) : Type 0 where
   pub views_are : seen.views ≡ views_after event past (pages s past) config
-  -- a cluster has a mark exactly where what is seen of it differs from what was seen of the cluster of its name
-  pub marks_are : AreMarked seen.changed.items past (pages s past) config seen.views
   pub pickable : ArePickable seen.views
-  -- and there is one for a configuration that isn't the one from before
-  pub new_is : IsChangeMark seen.is_new (config_now (pages s past)) config
+  -- whether what stands differs from what stood before
+  pub differs_is : IsChangeMark seen.differs (stands_now past (pages s past)) (config, seen.views)
+  -- a cluster without a mark is the one that stood at its place before, and what is seen of it and served by it stays
+  pub marks_are : StayInPlace seen.marks.items event past (pages s past) config
+  pub names_stay : seen.is_renamed ≡ false → cluster_names (config_now (pages s past)) ≡ cluster_names (Some config)
 
 -- something is seen exactly where there is a configuration
 abbrev pub AreSeen : Setting → DriverEvent → List Entry → Option Config → Option Seen → Type 0
@@ -65,7 +72,7 @@ stands_with s event past config = standing (present_after past event) config (tr
 
 -- what is seen of this configuration, where there is a number
 abbrev pub published_by : Option ℕ → Option Config → Option Seen → Option Published
-published_by (Some number) (Some config) (Some seen) = Some record { number = number; config = config; views = seen.views; changed = seen.changed; is_new = seen.is_new }
+published_by (Some number) (Some config) (Some seen) = Some record { number = number; config = config; views = seen.views; marks = seen.marks; is_renamed = seen.is_renamed }
 published_by _ _ _ = None
 
 abbrev pub number_in : Option Published → Option ℕ
@@ -75,13 +82,14 @@ number_in published = option_map (λ p. p.number) published
 abbrev pub snapshot_by : Published → Snapshot
 snapshot_by p = record { number = p.number; config = p.config; trees = p.views }
 
-abbrev pub seen_in : Published → Seen
-seen_in p = record { views = p.views; changed = p.changed; is_new = p.is_new }
-
 pub record IsPublication (s : Setting) (event : DriverEvent) (past : List Entry) (config : Option Config) (p : Published) : Type 0 where
   pub config_is : config ≡ Some p.config
   pub lawful : IsLawfulConfig p.config
-  pub seen : IsSeen s event past p.config (seen_in p)
+  pub views_are : p.views ≡ views_after event past (pages s past) p.config
+  pub pickable : ArePickable p.views
+  -- a cluster without a mark is the one that stood at its place before, and what is seen of it and served by it stays
+  pub marks_are : StayInPlace p.marks.items event past (pages s past) p.config
+  pub names_stay : p.is_renamed ≡ false → cluster_names (config_now (pages s past)) ≡ cluster_names (Some p.config)
 
 -- a snapshot is published exactly where one is due
 pub record IsShownBy (s : Setting) (event : DriverEvent) (past : List Entry) (config : Option Config) (published : Option Published) : Type 0 where

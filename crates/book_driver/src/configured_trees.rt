@@ -1,9 +1,11 @@
 //! The configuration and its trees, and what is published of them.
-ghost use Rattle.std.specs.Prelude.{◌≡◌, ◌<◌, ◌+◌, ◌^◌, ◌↔◌, ◌∷◌, ℕ, List, Option, Some, None, IfOk, IfSome, IsTrue, OnOk};
+ghost use Rattle.std.specs.Prelude.{◌≡◌, ◌<◌, ◌+◌, ◌^◌, ◌↔◌, ◌∷◌, ℕ, List, Option, Some, None, true, false, length, map, IfOk, IfSome, IsTrue, OnOk};
 ghost use Rattle.std.specs.Option.{option_or};
 ghost use Rattle.xds_config.specs.declared.config.Config.{Config as ConfigValue};
 ghost use Rattle.xds_config.specs.Configs.{IsLawfulConfig};
-ghost use Rattle.cluster_tree.specs.StandingTrees.{ChangesAt};
+ghost use Rattle.cluster_tree.specs.ClusterUsers.{EntriesStay};
+ghost use Rattle.cluster_tree.specs.StandingTrees.{ChangesAt, entries_of};
+ghost use Rattle.dep_manager.specs.ShownEntries.{StandAsShown};
 ghost use Rattle.call_journal.specs.declared.event.DriverEvent.{DriverEvent as EventValue};
 ghost use Rattle.call_journal.specs.declared.reply.DriverReply.{DriverReply};
 ghost use Rattle.call_journal.specs.declared.entry.Entry.{Entry as EntryValue};
@@ -13,15 +15,16 @@ ghost use Rattle.xds_history.specs.Page.{latest as latest_snapshot, latest_numbe
 ghost use Rattle.xds_history.specs.Pages.{driven, pages};
 ghost use Rattle.xds_history.specs.Right.{IsNumber};
 ghost use Rattle.book_trees.specs.ReportedLaws.{ShowsWhatStands};
-ghost use Rattle.book_trees.specs.TreesKept.{AreTreesAt, IsPageOf, reported_in};
-ghost use Rattle.book_driver.specs.ShownTrees.{AreConfiguredWith, AreSeen, IsNews, IsSeen, IsShownBy, published_by, stands_with};
+ghost use Rattle.book_trees.specs.TreesKept.{AreTreesAt, IsPageOf, cluster_names, clusters_of, reported_in};
+ghost use Rattle.book_driver.specs.ShownTrees.{AreConfiguredWith, AreSameBut, AreSeen, IsNews, IsSeen, IsShownBy, published_by, stands_with};
 
 use book_trees::ReportedTrees;
 use book_trees::due_numbers::{differs, due_number};
 use call_journal::DriverEvent;
+use cluster_tree::FollowedViews;
 use tree_steps::TreeView;
 use xc_base::{List, Memory, Reason, Same, Shared};
-use xds_config::Config;
+use xds_config::{ClusterEntry, Config};
 
 /// The trees, and the configuration whose trees they are.
 #[derive(Drop)]
@@ -37,10 +40,13 @@ pub struct ConfiguredTrees {
 pub struct Seen {
     /// What is seen of each cluster, or the reason why it has no trees.
     pub views: List<Result<Shared<TreeView>, Reason>>,
-    /// For each cluster, whether that differs from what was seen of the cluster of its name before.
-    pub changed: Vec<bool>,
-    /// Whether the configuration isn't the one from before.
-    pub is_new: bool,
+    /// Whether the configuration or a view differs from before.
+    pub differs: bool,
+    /// For each cluster, whether it may be another one than stood at its place before, or whether something else may be seen
+    /// of it or served by it.
+    pub marks: Vec<bool>,
+    /// Whether clusters of other names may stand at the places than before.
+    pub is_renamed: bool,
 }
 
 /// What is published at an entry.
@@ -52,40 +58,107 @@ pub struct Published {
     pub config: Shared<Config>,
     /// What is seen of each cluster, or the reason why it has no trees.
     pub views: List<Result<Shared<TreeView>, Reason>>,
-    /// For each cluster, whether that differs from what was seen of the cluster of its name before.
-    pub changed: Vec<bool>,
-    /// Whether the configuration isn't the one from before.
-    pub is_new: bool,
+    /// For each cluster, whether it may be another one than stood at its place before, or whether something else may be seen
+    /// of it or served by it.
+    pub marks: Vec<bool>,
+    /// Whether clusters of other names may stand at the places than before.
+    pub is_renamed: bool,
 }
 
-/// Whether two configurations are the same. Clusters differ more often than fronts, so they are looked at first.
-fn are_same(config: &Config, other: &Config) -> bool
+/// Whether two clusters' entries are the same, where they may be others.
+fn is_same_entry(entry: &ClusterEntry, other: &ClusterEntry, may_differ: bool) -> bool
+    requires { may_differ ≡ false → entry.now ≡ other.now }
+    ensures { IsTrue result ↔ (entry.now ≡ other.now) }
+{
+    !may_differ || entry.same(other)
+}
+
+/// Whether the entries of the configuration that stands are those of another one, in which each without a mark is.
+fn are_same_entries(
+    entries: &[Shared<ClusterEntry>],
+    others: &[Shared<ClusterEntry>],
+    marks: &[bool],
+) -> bool
+    requires count { length marks.now ≡ length others.now }
+    requires unmarked { AreSameBut marks.now entries.now others.now }
+    ensures { IsTrue result ↔ (entries.now ≡ others.now) }
+{
+    if entries.len() != others.len() {
+        return false;
+    }
+    for place in 0..entries.len() {
+        if !is_same_entry(entries[place].get(), others[place].get(), marks[place]) {
+            return false;
+        }
+    }
+    true
+}
+
+/// Whether two configurations are the same. Clusters differ more often than fronts, so they are looked at first; those without a
+/// mark are the same.
+fn are_same(config: &Config, other: &Config, marks: &[bool]) -> bool
+    requires { StandAsShown marks.now (Some config.now) other.now }
     ensures { IsTrue result ↔ (config.now ≡ other.now) }
 {
-    config.clusters.same(&other.clusters) && config.front.same(&other.front)
+    let entries = config.clusters.as_slice();
+    are_same_entries(entries, other.clusters.as_slice(), marks) && config.front.same(&other.front)
 }
 
 /// Whether the configuration is the one that stands.
-fn stands(config: &Option<Shared<Config>>, new: &Shared<Config>) -> bool
+fn stands(config: &Option<Shared<Config>>, new: &Shared<Config>, marks: &[bool]) -> bool
+    requires { StandAsShown marks.now config.now new.now }
     ensures { IsTrue result ↔ (config.now ≡ Some new.now) }
 {
     match config {
-        Some(config) => are_same(config.get(), new.get()),
+        Some(config) => are_same(config.get(), new.get(), marks),
         None => false,
     }
 }
 
 /// The configuration that was made, where it isn't the one that stands.
-fn news(made: Option<Shared<Config>>, config: &Option<Shared<Config>>) -> Option<Shared<Config>>
+fn news(
+    made: Option<Shared<Config>>,
+    config: &Option<Shared<Config>>,
+    marks: &[bool],
+) -> Option<Shared<Config>>
+    requires { IfSome made (λ new. StandAsShown marks.now config.now new) }
     ensures { IsNews made config.now result }
 {
     let Some(new) = made else {
         return None;
     };
-    if stands(config, &new) {
+    if stands(config, &new, marks) {
         return None;
     }
     Some(new)
+}
+
+/// Whether clusters stand for the same names, place by place.
+fn have_same_names(entries: &[Shared<ClusterEntry>], others: &[Shared<ClusterEntry>]) -> bool
+    ensures { result ≡ true → map (λ e. e.name) entries.now ≡ map (λ e. e.name) others.now }
+{
+    if entries.len() != others.len() {
+        return false;
+    }
+    for place in 0..entries.len() {
+        if !entries[place].get().name.same(&others[place].get().name) {
+            return false;
+        }
+    }
+    true
+}
+
+/// Whether clusters of other names may stand at the places of a configuration than at those of the one from before.
+fn is_renamed(before: &Option<Shared<Config>>, config: &Config) -> bool
+    ensures { result ≡ false → cluster_names before.now ≡ cluster_names (Some config.now) }
+{
+    match before {
+        Some(before) => {
+            let entries = before.get().clusters.as_slice();
+            !have_same_names(entries, config.clusters.as_slice())
+        }
+        None => true,
+    }
 }
 
 /// The number of the snapshot that is due.
@@ -94,7 +167,7 @@ fn due(latest: Option<u32>, seen: &Option<Seen>) -> Option<u32>
     ensures number { (s : Setting) (event : EventValue) (past : List EntryValue) (config : Option ConfigValue) → AreSeen s event past config seen.now → IfSome config IsLawfulConfig → ShowsWhatStands past (pages s past) → latest ≡ latest_number (pages s past) → IsNumber (stands_with s event past config) (latest_snapshot (pages s past)) result }
 {
     match seen {
-        Some(seen) => due_number(latest, differs(seen.is_new, &seen.changed)),
+        Some(seen) => due_number(latest, seen.differs),
         None => None,
     }
 }
@@ -112,8 +185,8 @@ fn publish(
             number,
             config: config.share()?,
             views: seen.views,
-            changed: seen.changed,
-            is_new: seen.is_new,
+            marks: seen.marks,
+            is_renamed: seen.is_renamed,
         })),
         _ => Ok(None),
     }
@@ -121,19 +194,27 @@ fn publish(
 
 impl ConfiguredTrees {
     /// Brings the trees to a configuration that isn't the one from before, once an event came.
-    fn turn(&mut self, event: &DriverEvent, config: Shared<Config>) -> Result<Seen, Memory>
+    fn turn(
+        &mut self,
+        event: &DriverEvent,
+        config: Shared<Config>,
+        others: &[bool],
+    ) -> Result<Seen, Memory>
         requires lawful { IsLawfulConfig config }
+        requires others { EntriesStay others.now self.old.trees.trees.clusters config.clusters }
         requires changes { ChangesAt (reported_in event.now) self.old.trees.reports.entries self.old.trees.trees }
         ensures seen { IfOk result (λ seen. (s : Setting) (past : List EntryValue) → AreConfiguredWith s event.now past self.old → (self.old.config ≡ Some config → ⊥) → IsSeen s event.now past config seen) }
         ensures config { OnOk result (self.new.config ≡ Some config) }
         ensures kept { OnOk result ((s : Setting) (past : List EntryValue) (line : ℕ) (reply : DriverReply) (page : Page) → AreConfiguredWith s event.now past self.old → IsPageOf event.now past (pages s past) (Some config) page → AreTreesAt (driven 0 line event.now reply ∷ past) (page ∷ pages s past) self.new.trees) }
     {
-        let seen = self.trees.follow(event, &config)?;
+        let FollowedViews { seen, anew } = self.trees.follow(event, &config, others)?;
+        let is_renamed = is_renamed(&self.config, config.get());
         self.config = Some(config);
         Ok(Seen {
             views: seen.views,
-            changed: seen.changed,
-            is_new: true,
+            differs: true,
+            marks: anew,
+            is_renamed,
         })
     }
 
@@ -147,8 +228,9 @@ impl ConfiguredTrees {
         let seen = self.trees.stay(event)?;
         Ok(Seen {
             views: seen.views,
-            changed: seen.changed,
-            is_new: false,
+            differs: differs(false, &seen.changed),
+            marks: seen.changed,
+            is_renamed: false,
         })
     }
 
@@ -172,16 +254,19 @@ impl ConfiguredTrees {
         &mut self,
         event: &DriverEvent,
         made: Option<Shared<Config>>,
+        others: &[bool],
     ) -> Result<Option<Seen>, Memory>
         requires lawful { IfSome made IsLawfulConfig }
         requires changes { ChangesAt (reported_in event.now) self.old.trees.reports.entries self.old.trees.trees }
+        requires entries { entries_of self.old.trees.trees.clusters ≡ clusters_of self.old.config }
+        requires others { IfSome made (λ config. StandAsShown others.now self.old.config config) }
         ensures seen { IfOk result (λ seen. (s : Setting) (past : List EntryValue) → AreConfiguredWith s event.now past self.old → AreSeen s event.now past (option_or made self.old.config) seen) }
         ensures config { OnOk result (self.new.config ≡ option_or made self.old.config) }
         ensures kept { OnOk result ((s : Setting) (past : List EntryValue) (line : ℕ) (reply : DriverReply) (page : Page) → AreConfiguredWith s event.now past self.old → IsPageOf event.now past (pages s past) (option_or made self.old.config) page → AreTreesAt (driven 0 line event.now reply ∷ past) (page ∷ pages s past) self.new.trees) }
     {
-        match news(made, &self.config) {
+        match news(made, &self.config, others) {
             Some(config) => {
-                let seen = self.turn(event, config)?;
+                let seen = self.turn(event, config, others)?;
                 Ok(Some(seen))
             }
             None => {
@@ -192,24 +277,28 @@ impl ConfiguredTrees {
     }
 
     /// Lets the trees follow, once an event came, and answers what is published: something, exactly where a snapshot is due
-    /// (gRFC A74). The configuration is the one that was made, if any was, else the one that stands. It fails for want of memory
-    /// alone, and then nothing is said of what is kept.
+    /// (gRFC A74). The configuration is the one that was made, if any was, else the one that stands. With it come marks: an entry
+    /// without one stood at its place in the configuration that stands, and isn't compared. It fails for want of memory alone,
+    /// and then nothing is said of what is kept.
     pub fn show(
         &mut self,
         event: &DriverEvent,
         made: Option<Shared<Config>>,
+        others: &[bool],
         latest: Option<u32>,
     ) -> Result<Option<Published>, Memory>
         requires lawful { IfSome made IsLawfulConfig }
         requires before { IfSome self.old.config IsLawfulConfig }
         requires changes { ChangesAt (reported_in event.now) self.old.trees.reports.entries self.old.trees.trees }
+        requires entries { entries_of self.old.trees.trees.clusters ≡ clusters_of self.old.config }
+        requires others { IfSome made (λ config. StandAsShown others.now self.old.config config) }
         requires few { IfSome latest (λ n. n + 1 < 2 ^ 32) }
         ensures published { IfOk result (λ published. (s : Setting) (past : List EntryValue) → AreConfiguredWith s event.now past self.old → ShowsWhatStands past (pages s past) → latest ≡ latest_number (pages s past) → IsShownBy s event.now past (option_or made self.old.config) published) }
         ensures config { OnOk result (self.new.config ≡ option_or made self.old.config) }
         ensures lawful { OnOk result (IfSome self.new.config IsLawfulConfig) }
         ensures kept { OnOk result ((s : Setting) (past : List EntryValue) (line : ℕ) (reply : DriverReply) (page : Page) → AreConfiguredWith s event.now past self.old → IsPageOf event.now past (pages s past) (option_or made self.old.config) page → AreTreesAt (driven 0 line event.now reply ∷ past) (page ∷ pages s past) self.new.trees) }
     {
-        let seen = self.follow(event, made)?;
+        let seen = self.follow(event, made, others)?;
         let number = due(latest, &seen);
         let published = publish(number, &self.config, seen)?;
         Ok(published)

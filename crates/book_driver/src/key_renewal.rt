@@ -1,5 +1,7 @@
 //! What an event comes to for the streams and the keys that are watched.
-ghost use Rattle.std.specs.Prelude.{◌≡◌, ◌<◌, ◌↔◌, List, length, IfOk, IfSome, IsNone, IsSome, unwrap_or};
+ghost use Rattle.std.specs.Prelude.{◌≡◌, ◌<◌, ◌↔◌, List, length, IfOk, IfSome, IsNone, IsSome, unwrap_or, OnOk};
+ghost use Rattle.std.specs.Option.{option_or};
+ghost use Rattle.dep_manager.specs.ShownEntries.{StandAsShown};
 ghost use Rattle.xds_config.specs.Configs.{IsLawfulConfig};
 ghost use Rattle.call_journal.specs.declared.entry.Entry.{Entry as EntryValue};
 ghost use Rattle.xds_history.specs.Setting.{Setting};
@@ -33,6 +35,9 @@ pub struct Renewal {
     pub missing: Option<Key>,
     /// The configuration that was made, which is there exactly where no reached key is awaited.
     pub made: Option<Shared<Config>>,
+    /// For each of its clusters, whether its entry may be another one than stood at its place in the configuration that was made
+    /// last before this one.
+    pub others: Vec<bool>,
 }
 
 /// What is taken in of an event.
@@ -71,6 +76,7 @@ impl Watcher {
         requires only { WatchesOnly self.old.fates.cache self.old.fates.reached }
         ensures heard { IfOk result (λ heard. (s : Setting) (past : List EntryValue) → IsWatcherAt s past self.old → IsHeardBy s past (came_with event.now heard.verdict heard.refused) now self.new) }
         ensures told { IfOk result (λ heard. (s : Setting) (past : List EntryValue) → IsWatcherAt s past self.old → IsToldBy s past event.now prepared heard.verdict heard.refused) }
+        ensures shown { OnOk result (self.new.deps.shown ≡ self.old.deps.shown) }
         ensures changed { IfOk result (λ heard. IsRightBy self.old.boot.authorities self.old.fates.cache self.old.deps → HaveChanged self.new.boot.authorities self.new.deps self.new.fates.cache heard.changed) }
     {
         let heard = hear(self.alloc, &mut self.streams, event, prepared)?;
@@ -99,6 +105,8 @@ impl Watcher {
         requires at { HasWatched self.old }
         ensures step { IfOk result (λ r. (s : Setting) (past : List EntryValue) → IsWatcherAt s past self.old → IsTimely s past event.now now references.now → IsRenewalAt s past event.now prepared r self.new) }
         ensures whole { IfOk result (λ r. IsSome r.made ↔ IsNone r.missing) }
+        ensures others { IfOk result (λ r. IfSome r.made (λ config. StandAsShown r.others.items self.old.deps.shown config)) }
+        ensures shown { IfOk result (λ r. self.new.deps.shown ≡ option_or r.made self.old.deps.shown) }
         ensures lawful { IfOk result (λ r. IfSome r.made IsLawfulConfig) }
     {
         let heard = self.take_in(event, prepared, now, steps)?;
@@ -110,6 +118,7 @@ impl Watcher {
             sent,
             missing: outcome.missing,
             made: outcome.config,
+            others: outcome.others,
         })
     }
 }

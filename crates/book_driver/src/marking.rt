@@ -23,8 +23,8 @@ fn authority_if(test: bool, authority: Authority) -> Option<Authority>
     if test { Some(authority) } else { None }
 }
 
-/// Whether bytes came that break their stream.
-fn is_broken(how: BytesHow) -> bool
+/// Whether bytes came that break their stream. It takes no memory.
+pub fn is_broken(how: BytesHow) -> bool
     ensures { result ≡ is_broken how }
 {
     matches!(how, BytesHow::Compressed | BytesHow::TooLong(_))

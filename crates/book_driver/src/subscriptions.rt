@@ -1,6 +1,8 @@
 //! What is watched, and what the driver's last entry settled of it.
 ghost use Rattle.std.specs.Prelude.{◌≡◌, ◌<◌, ◌↔◌, List, Some, length, IfOk, IfSome, IsTrue, OnOk};
+ghost use Rattle.std.specs.Option.{option_or};
 ghost use Rattle.xds_config.specs.Configs.{IsLawfulConfig};
+ghost use Rattle.dep_manager.specs.ShownEntries.{StandAsShown};
 ghost use Rattle.call_journal.specs.declared.entry.Entry.{Entry as EntryValue};
 ghost use Rattle.xds_history.specs.Setting.{Setting};
 ghost use Rattle.xds_history.specs.HistoryLaws.{is_report};
@@ -12,6 +14,7 @@ ghost use Rattle.book_driver.specs.Subscribed.{AreSubscribedAt, HasSubscribed, I
 ghost use Rattle.book_driver.specs.Courses.{IsCourse, IsRepeat, quiet_answer};
 
 use crate::key_renewal::Renewal;
+use crate::marking::is_broken;
 use crate::watcher::Watcher;
 use ads_stream::Verdict;
 use call_journal::DriverEvent;
@@ -47,11 +50,15 @@ enum Course {
     Renews(List<Text>),
 }
 
-/// Whether an event is a report of an endpoint's state or a sweep.
+/// Whether an event is a report of an endpoint's state or on bytes that break no stream, or a sweep.
 fn is_report(event: &DriverEvent) -> bool
     ensures { result ≡ is_report event.now }
 {
-    matches!(event, DriverEvent::Endpoint { .. } | DriverEvent::Sweep)
+    match event {
+        DriverEvent::Endpoint { .. } | DriverEvent::Sweep => true,
+        DriverEvent::Bytes { how, .. } => !is_broken(*how),
+        _ => false,
+    }
 }
 
 /// Whether calls refer to the same clusters as at the driver's last entry.
@@ -113,7 +120,7 @@ fn copy_of(key: &Option<Key>) -> Result<Option<Key>, Memory>
 
 /// The answer that changes nothing, where this key is awaited.
 fn repeat(alloc: Global, missing: Option<Key>) -> Renewal
-    ensures { result ≡ quiet_answer missing }
+    ensures { result ≡ quiet_answer missing result.others }
 {
     Renewal {
         verdict: Verdict::Done,
@@ -121,6 +128,7 @@ fn repeat(alloc: Global, missing: Option<Key>) -> Renewal
         sent: List::new(alloc),
         missing,
         made: None,
+        others: Vec::new(alloc),
     }
 }
 
@@ -139,6 +147,8 @@ impl Subscriptions {
         requires at { HasWatched self.old.watcher }
         ensures step { IfOk result (λ r. (s : Setting) (past : List EntryValue) → IsWatcherAt s past self.old.watcher → IsTimely s past event.now now references → IsAnsweredAt s past event.now prepared r self.new) }
         ensures lawful { IfOk result (λ r. IfSome r.made IsLawfulConfig) }
+        ensures others { IfOk result (λ r. IfSome r.made (λ config. StandAsShown r.others.items self.old.watcher.deps.shown config)) }
+        ensures shown { IfOk result (λ r. self.new.watcher.deps.shown ≡ option_or r.made self.old.watcher.deps.shown) }
     {
         let renewal = self
             .watcher
@@ -153,7 +163,7 @@ impl Subscriptions {
 
     /// Answers a report as the driver's last entry left it.
     fn repeat(&mut self, last: Settled) -> Result<Renewal, Memory>
-        ensures answer { IfOk result (λ r. r ≡ quiet_answer last.missing) }
+        ensures answer { IfOk result (λ r. r ≡ quiet_answer last.missing r.others) }
         ensures last { OnOk result (self.new ≡ record { watcher = self.old.watcher; last = Some last }) }
     {
         let missing = copy_of(&last.missing)?;
@@ -162,8 +172,8 @@ impl Subscriptions {
     }
 
     /// Answers an event at a time, where calls refer to these clusters; none are handed in where they are those of the
-    /// driver's last entry. A report of an endpoint's state or a sweep repeats what that one settled, unless calls refer to
-    /// others, and then no step is counted. It fails for want of memory alone, and then nothing is said of what is kept.
+    /// driver's last entry. A report of an endpoint's state or on bytes that break no stream, or a sweep, repeats what that one
+    /// settled, unless calls refer to others, and then no step is counted. It fails for want of memory alone, and then nothing is said of what is kept.
     pub fn answer<L: Ledger>(
         &mut self,
         event: &DriverEvent,
@@ -177,6 +187,8 @@ impl Subscriptions {
         requires at { HasSubscribed self.old }
         ensures step { IfOk result (λ r. (s : Setting) (past : List EntryValue) → AreSubscribedAt s past self.old → IsTimely s past event.now now (names_with references self.old.last) → IsAnsweredAt s past event.now prepared r self.new) }
         ensures lawful { IfOk result (λ r. IfSome r.made IsLawfulConfig) }
+        ensures others { IfOk result (λ r. IfSome r.made (λ config. StandAsShown r.others.items self.old.watcher.deps.shown config)) }
+        ensures shown { IfOk result (λ r. self.new.watcher.deps.shown ≡ option_or r.made self.old.watcher.deps.shown) }
         ensures still { (last : SettledValue) → IsRepeat (is_report event.now) references self.old.last last → steps.new ≡ steps.old }
     {
         let course = course_of(

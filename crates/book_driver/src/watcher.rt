@@ -1,5 +1,6 @@
 //! The streams and the keys that are watched.
-ghost use Rattle.std.specs.Prelude.{◌≡◌, ◌≤◌, ◌↔◌, [], ◌∷◌, ℕ, List, length, IfOk, IfSome, IsNone, IsSome};
+ghost use Rattle.std.specs.Prelude.{◌≡◌, ◌≤◌, ◌↔◌, [], ◌∷◌, ℕ, List, length, IfOk, IfSome, IsNone, IsSome, None, OnOk};
+ghost use Rattle.std.specs.Option.{option_or};
 ghost use Rattle.xc_base.specs.declared.names.Kind.TheVariants.{Listener as ListenerKind};
 ghost use Rattle.xc_base.specs.declared.names.Time.{Time as TimeValue};
 ghost use Rattle.xds_config.specs.Configs.{IsLawfulConfig};
@@ -11,6 +12,7 @@ ghost use Rattle.xds_history.specs.Responses.{Came};
 ghost use Rattle.xds_history.specs.Requests.{requests};
 ghost use Rattle.xds_history.specs.Pages.{came, driven, pages, present_after};
 ghost use Rattle.dep_manager.specs.KeptAssemblies.{HaveChanged};
+ghost use Rattle.dep_manager.specs.ShownEntries.{StandAsShown};
 ghost use Rattle.book_fates.specs.FateSteps.{WatchesOnly};
 ghost use Rattle.book_fates.specs.Timing.{NoneWanted};
 ghost use Rattle.driver_step.specs.DriverSteps.{Assembly, IsAssembly, watched_by};
@@ -48,7 +50,8 @@ impl Watcher {
     pub fn new(alloc: Global, boot: Bootstrap, target: Target) -> Result<Watcher, Memory>
         requires listener { target.key.kind ≡ ListenerKind }
         requires few { length boot.authorities ≤ 65536 }
-        ensures { IfOk result (λ w. IsWatcherAt (setting_of boot target) [] w) }
+        ensures at { IfOk result (λ w. IsWatcherAt (setting_of boot target) [] w) }
+        ensures shown { IfOk result (λ w. w.deps.shown ≡ None) }
     {
         let streams = Streams::new(alloc, &boot.node, boot.authorities.len())?;
         let deps = Deps::new(alloc, target)?;
@@ -82,6 +85,8 @@ impl Watcher {
         ensures known { IfOk result (λ o. IsNone o.missing → NoneWanted self.new.fates.cache o.reached) }
         ensures whole { IfOk result (λ o. IsSome o.config ↔ IsNone o.missing) }
         ensures lawful { IfOk result (λ o. IfSome o.config IsLawfulConfig) }
+        ensures others { IfOk result (λ o. IfSome o.config (λ config. StandAsShown o.others.items self.old.deps.shown config)) }
+        ensures shown { IfOk result (λ o. self.new.deps.shown ≡ option_or o.config self.old.deps.shown) }
     {
         let outcome = self.deps.update(
             self.alloc,
@@ -104,6 +109,7 @@ impl Watcher {
         steps: &mut Steps<L>,
     ) -> Result<List<Sent>, Memory>
         requires { IsNone missing.now → NoneWanted self.old.fates.cache reached }
+        ensures shown { OnOk result (self.new.deps.shown ≡ self.old.deps.shown) }
         ensures sent { IfOk result (λ sent. (s : Setting) (past : List EntryValue) (c : Came) (a : Assembly) → IsReachedBy s past c now reached self.old → a.reached ≡ reached → sent ≡ requests s c past (watched_by s c past (pages s past) a)) }
         ensures kept { IfOk result (λ sent. (s : Setting) (past : List EntryValue) (line : ℕ) (event : EventValue) (reply : DriverReply) (a : Assembly) → IsReachedBy s past (came event reply) now reached self.old → IsAssembly s (came event reply) past (pages s past) a → a.reached ≡ reached → now ≡ (present_after past event).now → reply.sent ≡ sent → IsWatcherAt s (driven 0 line event reply ∷ past) self.new) }
     {

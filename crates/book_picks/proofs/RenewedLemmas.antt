@@ -1,6 +1,7 @@
 -- The rows of clusters, one row on, and after a driver's entry.
-use Rattle.std.proofs.Common.{◌≡◌, ◌≢◌, ◌⊎◌, inl, inr, ℕ, ◌+◌, ◌<◌, ◌≤◌, Bool, true, false, cond, List, ◌∷◌, map, length, get_or, replicate, refl, sym, ap, ◌∙◌, subst, arith, Option, Some, None, eq-eqb, eqb-true, zero-add}
+use Rattle.std.proofs.Common.{◌≡◌, ◌≢◌, ◌⊎◌, inl, inr, ℕ, ◌+◌, ◌<◌, ◌≤◌, Bool, true, false, not, nat_lt, cond, List, [], ◌∷◌, map, length, get_or, replicate, refl, sym, ap, ap₂, ◌∙◌, subst, arith, Option, Some, None, eq-eqb, eqb-true, zero-add}
 use Rattle.std.specs.Prelude.{Result, Err, option_and_then, ◌==◌, if◌then◌else◌, AllPairs, option_map, position, slice_get, bytes_eq}
+use Rattle.std.specs.List.{prefix_len}
 use Rattle.std.specs.declared.cmp.Ordering.TheVariants.{Less}
 use Rattle.std.specs.Ordering.{is_eq, nat_cmp}
 use Rattle.std.specs.Cmp.Lexicographic.{slice_cmp}
@@ -10,7 +11,7 @@ use Rattle.std.proofs.lemmas.Map.Text.{is_eq-slice_cmp}
 use Rattle.std.proofs.lemmas.Option.{get_or_from_slice_get, slice_get-get_or, slice_get-map, slice_get_within}
 use Rattle.std.proofs.lemmas.Slice.Eq.{bytes_eq-Decides}
 use Rattle.std.proofs.lemmas.Bool.{cases_lt}
-use Rattle.std.proofs.lemmas.List.{get_or-replicate}
+use Rattle.std.proofs.lemmas.List.{get_or-replicate, length-map}
 use Rattle.xc_base.specs.declared.names.State.{State}
 use Rattle.xc_base.specs.declared.reason.Reason.{Reason}
 use Rattle.xds_config.specs.declared.endpoint_values.Locality.{Locality}
@@ -37,6 +38,7 @@ use Rattle.xds_history.specs.Trees.{Present}
 use Rattle.xds_history.specs.Pages.{caller_page, page_of, pages, present_after, snapshot_of}
 use Rattle.xds_history.specs.Pickers.{cluster_view, views}
 use Rattle.xds_history.specs.Picks.{same_place, taken_by, turn}
+use Rattle.book_trees.specs.TreesKept.{clusters_of}
 use Rattle.book_picks.specs.declared.place_counts.PlaceKey.{PlaceKey}
 use Rattle.book_picks.specs.declared.place_counts.PlaceCounts.{PlaceCounts}
 use Rattle.book_picks.specs.declared.cluster_rows.Row.{Row}
@@ -44,7 +46,7 @@ use Rattle.book_picks.specs.declared.kept_turns.Turns.{Turns}
 use Rattle.book_picks.specs.CountedPlaces.{Extends, index_of}
 use Rattle.book_picks.specs.ClusterRows.{AreIndexesOf, keys_of}
 use Rattle.book_picks.specs.ChosenPlaces.{key_of, served}
-use Rattle.book_picks.specs.TurnsKept.{AreRowsOf, AreTurnsAt, HasRow, clusters_of, row_named}
+use Rattle.book_picks.specs.TurnsKept.{AreRowsOf, AreTurnsAt, HasRow, row_named}
 use Rattle.book_picks.specs.RenewedRows.{AreMarksOf, AreRenewed, IsPublishedAt, ServesLocalities, StaysServed, child_seen, keys_at, view_at}
 use Rattle.book_picks.specs.TurnsLaws.{CallersLeaveTurns, DriversLeaveTurns}
 use Rattle.book_picks.proofs.CountedLemmas.{extends_not, extends_on}
@@ -220,24 +222,36 @@ row_served ps page snapshot forest new place entry published serves is has =
     subst (λ keys. HasRow new entry.name place keys)
     (keys_served published.states page.trees entry (view_at snapshot place) (localities_at forest place) (sym seen) (λ leaves state. serves place entry leaves is state)) has
 
-rows_kept : (ps : List Page) (page : Page) (snapshot : Snapshot) (old new : Turns) (place : ℕ) (entry : ClusterEntry) → AreRowsOf snapshot.config.clusters (trees_now ps) old → slice_get snapshot.config.clusters place ≡ Some entry → StaysServed (trees_now ps) page.trees entry →
+rows_kept : (ps : List Page) (page : Page) (old new : Turns) (place : ℕ) (entry : ClusterEntry) → AreRowsOf (clusters_of (config_now ps)) (trees_now ps) old → slice_get (clusters_of (config_now ps)) place ≡ Some entry → StaysServed (trees_now ps) page.trees entry →
     ((keys : List PlaceKey) → HasRow old entry.name place keys → HasRow new entry.name place keys) → HasRow new entry.name place (map key_of (served page.trees entry))
-rows_kept ps page snapshot old new place entry rows is stays keep =
+rows_kept ps page old new place entry rows is stays keep =
     subst (λ keys. HasRow new entry.name place keys) (keys_stay (trees_now ps) page.trees entry stays) (keep (map key_of (served (trees_now ps) entry)) (rows.each place entry is))
 
--- where the configuration stays
+unnamed_front : (name : Name) (clusters : List ClusterEntry) → prefix_len (λ other. not (bytes_eq other name)) (map (λ c. c.name) clusters) ≡ prefix_len (λ c. not (bytes_eq c.name name)) clusters
+unnamed_front name [] = refl
+unnamed_front name (c ∷ clusters) = ap (λ (n : ℕ). cond (not (bytes_eq c.name name)) (1 + n) 0) (unnamed_front name clusters)
+
+place_by_name : (name : Name) (clusters : List ClusterEntry) → position (λ other. bytes_eq other name) (map (λ c. c.name) clusters) ≡ position (λ c. bytes_eq c.name name) clusters
+place_by_name name clusters = ap₂ (λ (n long : ℕ). cond (nat_lt n long) (Some n) None) (unnamed_front name clusters) (length-map clusters (λ (c : ClusterEntry). c.name))
+
+-- a name that no cluster has now had none before
+unnamed_before : (old new : List ClusterEntry) (name : Name) → map (λ c. c.name) old ≡ map (λ c. c.name) new → position (λ c. bytes_eq c.name name) new ≡ None → position (λ c. bytes_eq c.name name) old ≡ None
+unnamed_before old new name same none = sym (place_by_name name old) ∙ ap (position (λ other. bytes_eq other name)) same ∙ place_by_name name new ∙ none
+
+-- where clusters of the same names stand at the places
 pub renewed : (ps : List Page) (page : Page) (snapshot : Snapshot) (forest : Forest) (marks : List Bool) (old new : Turns) → AreTurnsAt ps old → IsSnapshotPage snapshot page ps → ServesLocalities forest snapshot.config page.trees → AreMarksOf marks snapshot.config ps page.trees →
     AreRenewed forest snapshot marks old new → AreTurnsAt (page ∷ ps) new
 renewed ps page snapshot forest marks old new are published serves marked made =
-    let rows : AreRowsOf snapshot.config.clusters (trees_now ps) old = subst (λ c. AreRowsOf (clusters_of c) (trees_now ps) old) marked.config_stays are.rows in
     entry_more ps page snapshot old new are published made.extends (record {
-      each = λ place entry is. by_mark rows place entry is (get_or marks place false) refl;
-      others = λ name none. made.others name none (rows.others name none);
+      each = λ place entry is. by_mark place entry is (get_or marks place false) refl;
+      others = λ name none. made.others name none (are.rows.others name (unnamed_before (clusters_of (config_now ps)) snapshot.config.clusters name marked.names_stay none));
     })
   where
-    by_mark : AreRowsOf snapshot.config.clusters (trees_now ps) old → (place : ℕ) (entry : ClusterEntry) → slice_get snapshot.config.clusters place ≡ Some entry → (b : Bool) → get_or marks place false ≡ b → HasRow new entry.name place (map key_of (served page.trees entry))
-    by_mark rows place entry is true mark = row_served ps page snapshot forest new place entry published serves is (made.fresh place entry is mark)
-    by_mark rows place entry is false mark = rows_kept ps page snapshot old new place entry rows is (marked.stay place entry is mark) (λ keys. made.kept place entry keys is mark)
+    by_mark : (place : ℕ) (entry : ClusterEntry) → slice_get snapshot.config.clusters place ≡ Some entry → (b : Bool) → get_or marks place false ≡ b → HasRow new entry.name place (map key_of (served page.trees entry))
+    by_mark place entry is true mark = row_served ps page snapshot forest new place entry published serves is (made.fresh place entry is mark)
+    by_mark place entry is false mark =
+        let unmoved = marked.stay place entry is mark in
+        rows_kept ps page old new place entry are.rows unmoved.entry_stays unmoved.stays (λ keys. made.kept place entry keys is mark)
 
 pub all_marked : (marks : List Bool) (n m : ℕ) → marks ≡ replicate n true → n ≡ m → (place : ℕ) → place < m → get_or marks place false ≡ true
 all_marked marks n m are many place less = let within : place < n = omega arith in ap (λ xs. get_or xs place false) are ∙ get_or-replicate n place true false within

@@ -26,7 +26,8 @@ use Rattle.book_picks.specs.CountedPlaces.{IsRaised, index_of}
 use Rattle.book_picks.specs.ClusterRows.{AreIndexesOf}
 use Rattle.book_picks.specs.ChosenPlaces.{key_of, served}
 use Rattle.book_picks.specs.TakenTurns.{IsOfChild, IsShownAt, TakesTurn, TurnsFor, index_taken, place_taken}
-use Rattle.book_picks.specs.TurnsKept.{AreRowsOf, AreTurnsAt, clusters_of, row_named}
+use Rattle.book_trees.specs.TreesKept.{clusters_of}
+use Rattle.book_picks.specs.TurnsKept.{AreRowsOf, AreTurnsAt, row_named}
 use Rattle.book_picks.proofs.ServedLemmas.{seen_places, index_at, counted_at}
 
 -- ---- what is shown

@@ -1,14 +1,10 @@
 -- What is kept of the trees tells what `renew` asks for, and where nothing is published.
-use Rattle.std.proofs.Common.{◌≡◌, ℕ, zero, suc, Bool, false, List, [], ◌∷◌, map, get_or, refl, sym, ap, ◌∙◌, subst, Option, Some, None}
-use Rattle.std.specs.Prelude.{Contains, Result, option_map, option_and_then, slice_get}
-use Rattle.std.proofs.lemmas.List.{get_or-map}
+use Rattle.std.proofs.Common.{◌≡◌, ℕ, zero, suc, Bool, List, [], ◌∷◌, refl, sym, ap, ◌∙◌, subst, Option, Some, None}
+use Rattle.std.specs.Prelude.{Contains, option_map, option_and_then, slice_get}
 use Rattle.std.proofs.lemmas.Option.{get_or_from_slice_get, slice_get-map, slice_get_within}
 use Rattle.xc_base.specs.declared.names.State.{State}
-use Rattle.xc_base.specs.declared.reason.Reason.{Reason}
 use Rattle.xds_config.specs.declared.config.ClusterEntry.{ClusterEntry}
 use Rattle.xds_config.specs.declared.config.Config.{Config}
-use Rattle.xds_config.specs.Configs.{IsLawfulConfig}
-use Rattle.tree_steps.specs.declared.tree_view.TreeView.{TreeView}
 use Rattle.cluster_tree.specs.declared.snapshot.Snapshot.{Snapshot}
 use Rattle.call_journal.specs.declared.event.DriverEvent.{DriverEvent}
 use Rattle.call_journal.specs.declared.reply.DriverReply.{DriverReply}
@@ -25,15 +21,15 @@ use Rattle.xds_history.specs.Trees.{trees_after}
 use Rattle.xds_history.specs.Pickers.{cluster_view, views}
 use Rattle.xds_history.specs.Right.{IsNumber, IsReply, shown, standing}
 use Rattle.book_trees.specs.declared.reported_trees.ReportedTrees.{ReportedTrees}
-use Rattle.book_trees.specs.TreesKept.{AreMarked, AreTreesAt, entry_named, present, seen_before, seen_in, views_after}
+use Rattle.book_trees.specs.TreesKept.{AreTreesAt, StayInPlace, StaysInPlace, cluster_names, present, clusters_of}
 use Rattle.book_trees.specs.ReportedLaws.{stands_now}
-use Rattle.book_trees.proofs.GrownLemmas.{named_itself}
 use Rattle.book_trees.proofs.ServedLemmas.{stay_keeps_places, trees_serve}
+use Rattle.book_trees.proofs.StayingLemmas.{same_view}
 use Rattle.book_trees.proofs.DueNumberLemmas.{latest_shows_what_stands}
 use Rattle.book_trees.proofs.TypedLemmas.{configs_are_kept}
 use Rattle.book_picks.specs.declared.kept_turns.Turns.{Turns}
-use Rattle.book_picks.specs.TurnsKept.{AreTurnsAt, clusters_of}
-use Rattle.book_picks.specs.RenewedRows.{AreMarksOf, StaysServed}
+use Rattle.book_picks.specs.TurnsKept.{AreTurnsAt}
+use Rattle.book_picks.specs.RenewedRows.{AreMarksOf, IsUnmoved, StaysServed}
 use Rattle.book_picks.specs.ServingLaws.{MarksTellServed, QuietLeavesTurns, TreesServeAll}
 use Rattle.book_picks.proofs.RowLemmas.{config_of}
 use Rattle.book_picks.proofs.RenewedLemmas.{drivers_leave}
@@ -54,41 +50,35 @@ stays_served past ps trees event config place entry at now is seen =
       localities = stay_keeps_places past ps trees event config entry at now there seen;
     }
 
-same_view : (a b : Result TreeView Reason) → (let o : Option (Result TreeView Reason) = Some a in o) ≡ Some b → a ≡ b
-same_view a b is = cc
+unmoved : (past : List Entry) (ps : List Page) (event : DriverEvent) (config : Config) (place : ℕ) (entry : ClusterEntry) (stood : Option Config) → config_now ps ≡ stood → StaysInPlace event past ps config place entry →
+    IsUnmoved stood (trees_now ps) (trees_after (present_after past event) (trees_now ps) (Some config)) place entry
+unmoved past ps event config place entry None is stays = absurd (nowhere (ap (option_and_then (λ c. slice_get c.clusters place)) (sym is) ∙ stays.entry_stays))
+  where
+    nowhere : (let o : Option ClusterEntry = None in o) ≡ Some entry → ⊥
+    nowhere is = cc
+unmoved past ps event config place entry (Some stood) is stays = record {
+  entry_stays = ap (option_and_then (λ c. slice_get c.clusters place)) (sym is) ∙ stays.entry_stays;
+  stays = record {
+    states_before = state past;
+    states_after = (present_after past event).state;
+    view = stays.seen_stays;
+    localities = stays.served_stays;
+  };
+}
 
--- a cluster that isn't marked is seen as before
-seen_still : (marks : List Bool) (past : List Entry) (ps : List Page) (event : DriverEvent) (config : Config) (place : ℕ) (entry : ClusterEntry) → IsLawfulConfig config → config_now ps ≡ Some config → slice_get config.clusters place ≡ Some entry →
-    AreMarked marks past ps config (views_after event past ps config) → get_or marks place false ≡ false →
-    cluster_view (state past) (trees_now ps) entry ≡ cluster_view (present_after past event).state (trees_after (present_after past event) (trees_now ps) (Some config)) entry
-seen_still marks past ps event config place entry lawful now is marked mark =
-    let within = slice_get_within config.clusters place entry is in
-    let here : get_or config.clusters place entry ≡ entry = get_or_from_slice_get config.clusters place entry entry is in
-    let view = cluster_view (present_after past event).state (trees_after (present_after past event) (trees_now ps) (Some config)) in
-    let stays = (marked.each place entry (view entry) within).stays mark in
-    let named : entry_named entry.name config.clusters ≡ Some entry =
-    subst (λ c. entry_named c.name config.clusters ≡ Some c) here (named_itself config.clusters place entry lawful.rising within) in
-    let before : seen_before past ps (get_or config.clusters place entry).name ≡ Some (cluster_view (state past) (trees_now ps) entry) =
-    ap (λ c. seen_before past ps c.name) here
-    ∙ ap (λ c. option_and_then (seen_in (state past) (trees_now ps) entry.name) c) now
-    ∙ ap (option_map (cluster_view (state past) (trees_now ps))) named in
-    let after : get_or (map view config.clusters) place (view entry) ≡ view entry = get_or-map view config.clusters place entry (view entry) within ∙ ap view here in
-    same_view (cluster_view (state past) (trees_now ps) entry) (view entry) (sym before ∙ stays ∙ ap (λ v. Some v) after)
-
-marks_tell_at : (s : Setting) (past : List Entry) (e : Entry) (event : DriverEvent) (reply : DriverReply) (trees : ReportedTrees) (config : Config) (marks : List Bool) (w : What) → w ≡ What.Driver event reply → IsLawfulConfig config →
-    AreTreesAt past (pages s past) trees → config_now (pages s past) ≡ Some config → (page_of s e w past (pages s past)).config ≡ Some config → AreMarked marks past (pages s past) config (views_after event past (pages s past) config) →
-    AreMarksOf marks config (pages s past) (page_of s e w past (pages s past)).trees
-marks_tell_at s past e event reply trees config marks w is lawful at now after marked =
+marks_tell_at : (s : Setting) (past : List Entry) (e : Entry) (event : DriverEvent) (reply : DriverReply) (config : Config) (marks : List Bool) (w : What) → w ≡ What.Driver event reply → StayInPlace marks event past (pages s past) config →
+    cluster_names (config_now (pages s past)) ≡ cluster_names (Some config) → (page_of s e w past (pages s past)).config ≡ Some config → AreMarksOf marks config (pages s past) (page_of s e w past (pages s past)).trees
+marks_tell_at s past e event reply config marks w is still names after =
     subst (λ v. (page_of s e v past (pages s past)).config ≡ Some config → AreMarksOf marks config (pages s past) (page_of s e v past (pages s past)).trees) (sym is)
     (λ stands. record {
-      config_stays = now;
+      names_stay = names;
       stay = λ place entry named mark.
-          subst (λ c. StaysServed (trees_now (pages s past)) (trees_after (present_after past event) (trees_now (pages s past)) c) entry) (sym stands)
-          (stays_served past (pages s past) trees event config place entry at now named (seen_still marks past (pages s past) event config place entry lawful now named marked mark));
+          subst (λ c. IsUnmoved (config_now (pages s past)) (trees_now (pages s past)) (trees_after (present_after past event) (trees_now (pages s past)) c) place entry) (sym stands)
+          (unmoved past (pages s past) event config place entry (config_now (pages s past)) refl (still.each place entry named mark));
     }) after
 
 pub marks_tell_served : MarksTellServed
-marks_tell_served s past e event reply trees config marks is lawful at now after marked = marks_tell_at s past e event reply trees config marks e.what is lawful at now after marked
+marks_tell_served s past e event reply config marks is still names after = marks_tell_at s past e event reply config marks e.what is still names after
 
 -- ---- where nothing is published
 

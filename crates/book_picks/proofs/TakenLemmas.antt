@@ -27,7 +27,8 @@ use Rattle.book_picks.specs.declared.kept_turns.Turns.{Turns}
 use Rattle.book_picks.specs.CountedPlaces.{AreNumbered, IsRaised, KeepsIndexes, count_at, count_of, index_of, is_place, raised}
 use Rattle.book_picks.specs.ChosenPlaces.{key_of, served}
 use Rattle.book_picks.specs.TakenTurns.{TakesTurn, place_taken}
-use Rattle.book_picks.specs.TurnsKept.{AreRowsOf, AreTurnsAt, HasRow, clusters_of}
+use Rattle.book_trees.specs.TreesKept.{clusters_of}
+use Rattle.book_picks.specs.TurnsKept.{AreRowsOf, AreTurnsAt, HasRow}
 use Rattle.book_picks.proofs.CountedLemmas.{same_parts}
 use Rattle.book_picks.proofs.IndexLemmas.{indexes_stay}
 

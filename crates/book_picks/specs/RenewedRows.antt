@@ -22,6 +22,7 @@ use Rattle.xds_history.specs.declared.page.Page.{Page}
 use Rattle.xds_history.specs.Page.{config_now, trees_now}
 use Rattle.xds_history.specs.Pages.{page_of, pages}
 use Rattle.xds_history.specs.Pickers.{cluster_view}
+use Rattle.book_trees.specs.TreesKept.{cluster_names, clusters_of}
 use Rattle.book_picks.specs.declared.place_counts.PlaceKey.{PlaceKey}
 use Rattle.book_picks.specs.declared.kept_turns.Turns.{Turns}
 use Rattle.book_picks.specs.CountedPlaces.{Extends}
@@ -59,10 +60,15 @@ pub record StaysServed (before after : List ClusterTrees) (entry : ClusterEntry)
 abbrev pub ServesLocalities : Forest → Config → List ClusterTrees → Type 0
 ServesLocalities forest config trees = (place : ℕ) (entry : ClusterEntry) (leaves : Leaves) → slice_get config.clusters place ≡ Some entry → entry.state ≡ Ok leaves → localities_at forest place ≡ localities_served trees entry
 
--- the configuration stays, and so does what is served of each cluster that isn't marked
+-- a cluster that isn't marked is the one that stood at its place, and what is served of it stays
+pub record IsUnmoved (config : Option Config) (before after : List ClusterTrees) (place : ℕ) (entry : ClusterEntry) : Type 0 where
+  pub entry_stays : slice_get (clusters_of config) place ≡ Some entry
+  pub stays : StaysServed before after entry
+
+-- the clusters have the names of those from before, place by place, and each one that isn't marked stays as it was
 pub record AreMarksOf (marks : List Bool) (config : Config) (before : List Page) (after : List ClusterTrees) : Type 0 where
-  pub config_stays : config_now before ≡ Some config
-  pub stay : (place : ℕ) (entry : ClusterEntry) → slice_get config.clusters place ≡ Some entry → get_or marks place false ≡ false → StaysServed (trees_now before) after entry
+  pub names_stay : cluster_names (config_now before) ≡ cluster_names (Some config)
+  pub stay : (place : ℕ) (entry : ClusterEntry) → slice_get config.clusters place ≡ Some entry → get_or marks place false ≡ false → IsUnmoved (config_now before) (trees_now before) after place entry
 
 -- a driver's entry at which this snapshot is published
 pub record IsPublishedAt (s : Setting) (past : List Entry) (e : Entry) (snapshot : Snapshot) : Type 0 where

@@ -4,7 +4,6 @@ use Rattle.xc_base.specs.declared.names.Kind.{Kind}
 use Rattle.xds_bootstrap.specs.declared.bootstrap.Bootstrap.{Bootstrap}
 use Rattle.xds_name.specs.declared.target.Target.{Target}
 use Rattle.xds_config.specs.declared.config.Config.{Config}
-use Rattle.xds_config.specs.Configs.{IsLawfulConfig}
 use Rattle.call_journal.specs.declared.event.DriverEvent.{DriverEvent}
 use Rattle.call_journal.specs.declared.reply.DriverReply.{DriverReply}
 use Rattle.call_journal.specs.declared.entry.What.{What}
@@ -15,7 +14,7 @@ use Rattle.xds_history.specs.Page.{config_now, trees_now}
 use Rattle.xds_history.specs.Pages.{pages}
 use Rattle.xds_history.specs.Right.{Right}
 use Rattle.book_trees.specs.declared.reported_trees.ReportedTrees.{ReportedTrees}
-use Rattle.book_trees.specs.TreesKept.{AreMarked, AreTreesAt, views_after}
+use Rattle.book_trees.specs.TreesKept.{AreTreesAt, StayInPlace, cluster_names}
 use Rattle.book_picks.specs.declared.kept_turns.Turns.{Turns}
 use Rattle.book_picks.specs.TurnsKept.{AreTurnsAt}
 use Rattle.book_picks.specs.RenewedRows.{AreMarksOf, ServesLocalities}
@@ -24,10 +23,10 @@ use Rattle.book_picks.specs.RenewedRows.{AreMarksOf, ServesLocalities}
 abbrev pub TreesServeAll : Type 0
 TreesServeAll = (past : List Entry) (ps : List Page) (trees : ReportedTrees) (config : Config) → AreTreesAt past ps trees → config_now ps ≡ Some config → ServesLocalities trees.trees config (trees_now ps)
 
--- where the configuration stays, the marks of what is seen tell of which clusters something else is served
+-- where clusters of the same names stand at the places, the marks of what is seen tell of which clusters something else is served
 abbrev pub MarksTellServed : Type 0
-MarksTellServed = (s : Setting) (past : List Entry) (e : Entry) (event : DriverEvent) (reply : DriverReply) (trees : ReportedTrees) (config : Config) (marks : List Bool) → e.what ≡ What.Driver event reply → IsLawfulConfig config →
-    AreTreesAt past (pages s past) trees → config_now (pages s past) ≡ Some config → config_now (pages s (e ∷ past)) ≡ Some config → AreMarked marks past (pages s past) config (views_after event past (pages s past) config) →
+MarksTellServed = (s : Setting) (past : List Entry) (e : Entry) (event : DriverEvent) (reply : DriverReply) (config : Config) (marks : List Bool) → e.what ≡ What.Driver event reply →
+    StayInPlace marks event past (pages s past) config → cluster_names (config_now (pages s past)) ≡ cluster_names (Some config) → config_now (pages s (e ∷ past)) ≡ Some config →
     AreMarksOf marks config (pages s past) (trees_now (pages s (e ∷ past)))
 
 -- a driver's entry at which nothing is published leaves what is kept of picks as it is

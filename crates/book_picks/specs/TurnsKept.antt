@@ -1,11 +1,9 @@
 -- What is kept of picks, and what it is of the history.
-use Rattle.std.specs.Prelude.{◌≡◌, ℕ, List, [], map, Option, Some, None, option_map, slice_get, position, bytes_eq}
-use Rattle.std.specs.Option.{option_map_or}
+use Rattle.std.specs.Prelude.{◌≡◌, ℕ, List, map, Option, Some, None, option_map, slice_get, position, bytes_eq}
 use Rattle.std.specs.Ordering.{is_eq}
 use Rattle.std.specs.Map.{lookup}
 use Rattle.xc_base.specs.declared.names.CallId.{CallId}
 use Rattle.xds_config.specs.declared.config.ClusterEntry.{ClusterEntry}
-use Rattle.xds_config.specs.declared.config.Config.{Config}
 use Rattle.cluster_tree.specs.declared.snapshot.Snapshot.{Snapshot}
 use Rattle.config_assembly.specs.Orders.{Name, name_cmp}
 use Rattle.xds_history.specs.declared.page.ClusterTrees.{ClusterTrees}
@@ -15,6 +13,7 @@ use Rattle.xds_history.specs.References.{held}
 use Rattle.xds_history.specs.Trees.{Present}
 use Rattle.xds_history.specs.Right.{standing, shown}
 use Rattle.xds_history.specs.Picks.{Place, turn}
+use Rattle.book_trees.specs.TreesKept.{clusters_of}
 use Rattle.book_picks.specs.declared.place_counts.PlaceKey.{PlaceKey}
 use Rattle.book_picks.specs.declared.cluster_rows.Row.{Row}
 use Rattle.book_picks.specs.declared.kept_turns.Turns.{Turns}
@@ -36,9 +35,6 @@ pub record HasRow (turns : Turns) (name : Name) (place : ℕ) (keys : List Place
 pub record AreRowsOf (clusters : List ClusterEntry) (trees : List ClusterTrees) (turns : Turns) : Type 0 where
   pub each : (place : ℕ) (entry : ClusterEntry) → slice_get clusters place ≡ Some entry → HasRow turns entry.name place (map key_of (served trees entry))
   pub others : (name : Name) → position (λ c. bytes_eq c.name name) clusters ≡ None → row_named turns name ≡ None
-
-abbrev pub clusters_of : Option Config → List ClusterEntry
-clusters_of config = option_map_or (λ c. c.clusters) config []
 
 -- after these entries: each count is the turn of its place, and the rows are those of the clusters that stand
 pub record AreTurnsAt (ps : List Page) (turns : Turns) : Type 0 where

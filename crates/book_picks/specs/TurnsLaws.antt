@@ -11,7 +11,8 @@ use Rattle.xds_history.specs.Setting.{Setting}
 use Rattle.xds_history.specs.Page.{config_now, trees_now}
 use Rattle.xds_history.specs.Pages.{pages}
 use Rattle.book_picks.specs.declared.kept_turns.Turns.{Turns}
-use Rattle.book_picks.specs.TurnsKept.{AreTurnsAt, clusters_of}
+use Rattle.book_trees.specs.TreesKept.{clusters_of}
+use Rattle.book_picks.specs.TurnsKept.{AreTurnsAt}
 use Rattle.book_picks.specs.RenewedRows.{StaysServed}
 
 abbrev pub IsNoPick : CallerEvent → Type 0

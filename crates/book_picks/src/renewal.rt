@@ -33,21 +33,22 @@ fn chosen_child(seen: &Result<Shared<TreeView>, Reason>) -> Option<&NamedChild>
 
 impl Turns {
     /// Brings the rows to the snapshot that a driver's entry publishes. A place that stays or comes back goes on with its own
-    /// count. Where the configuration is that of the driver's entry before, only the clusters that are marked are looked at:
-    /// those of which something else is seen. It fails for want of memory alone, and then nothing is said of what is kept.
+    /// count. Where the clusters have the names of those from before, place by place, only the marked ones are looked at: those
+    /// that may be others than stood at their places, or of which something else may be seen or served. It fails for want of
+    /// memory alone, and then nothing is said of what is kept.
     pub fn renew(
         &mut self,
         trees: &Trees,
         snapshot: &Snapshot,
         marks: &[bool],
-        is_new: bool,
+        is_renamed: bool,
     ) -> Result<(), Memory>
         requires lawful { IsLawfulConfig snapshot.now.config }
         requires views { length snapshot.now.trees ≡ length snapshot.now.config.clusters }
         requires marks { length marks.now ≡ length snapshot.now.config.clusters }
-        ensures { OnOk result ((s : Setting) (past : List EntryValue) (e : EntryValue) → AreTurnsAt (pages s past) self.old → IsPublishedAt s past e snapshot.now → ServesLocalities trees.entry.now snapshot.now.config (trees_now (pages s (e ∷ past))) → (is_new ≡ false → AreMarksOf marks.now snapshot.now.config (pages s past) (trees_now (pages s (e ∷ past)))) → AreTurnsAt (pages s (e ∷ past)) self.new) }
+        ensures { OnOk result ((s : Setting) (past : List EntryValue) (e : EntryValue) → AreTurnsAt (pages s past) self.old → IsPublishedAt s past e snapshot.now → ServesLocalities trees.entry.now snapshot.now.config (trees_now (pages s (e ∷ past))) → (is_renamed ≡ false → AreMarksOf marks.now snapshot.now.config (pages s past) (trees_now (pages s (e ∷ past)))) → AreTurnsAt (pages s (e ∷ past)) self.new) }
     {
-        if is_new {
+        if is_renamed {
             self.renew_all(trees, snapshot)?;
             return Ok(());
         }

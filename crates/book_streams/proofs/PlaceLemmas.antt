@@ -48,7 +48,7 @@ brings_nothing s a DriverEvent.Sweep refused k other kind = refl
 pub turns_nothing : (a : Authority) (event : DriverEvent) (v : Verdict) → is_about a event ≡ false → turn_by a event v ≡ Stays
 turns_nothing a (DriverEvent.Response b payload) v other = ap (λ x. turn_if (x && is_unreadable v) Ends) other
 turns_nothing a (DriverEvent.Opened b) v other = ap (λ x. turn_if x Opens) other
-turns_nothing a (DriverEvent.Bytes b how) v other = ap (λ x. turn_if (x && is_broken how) Ends) other
+turns_nothing a (DriverEvent.Bytes b how) v other = ap (λ x. turn_if x Ends) other
 turns_nothing a (DriverEvent.Lost b) v other = ap (λ x. turn_if x Ends) other
 turns_nothing a (DriverEvent.Moment time) v other = refl
 turns_nothing a (DriverEvent.Endpoint address state) v other = refl
@@ -109,7 +109,7 @@ apart a b c same other = ne_eqb c.0 b.0 (λ e. other (e ∙ sym (eqb-true a.0 b.
 about_others : (a c : Authority) (event : DriverEvent) (v : Verdict) → (turn_by a event v ≡ Stays → ⊥) → (c.0 ≡ a.0 → ⊥) → is_about c event ≡ false
 about_others a c (DriverEvent.Opened b) v moves other = apart a b c (one (same_authority a b) Opens moves) other
 about_others a c (DriverEvent.Response b payload) v moves other = apart a b c (both (same_authority a b) (is_unreadable v) Ends moves).0 other
-about_others a c (DriverEvent.Bytes b how) v moves other = apart a b c (both (same_authority a b) (is_broken how) Ends moves).0 other
+about_others a c (DriverEvent.Bytes b how) v moves other = ap (λ x. x && is_broken how) (apart a b c (both (same_authority a b) (is_broken how) Ends moves).0 other)
 about_others a c (DriverEvent.Lost b) v moves other = apart a b c (one (same_authority a b) Ends moves) other
 about_others a c (DriverEvent.Moment time) v moves other = refl
 about_others a c (DriverEvent.Endpoint address state) v moves other = refl
@@ -213,19 +213,19 @@ set_same (y ∷ xs) (suc i) x is = ap (λ zs. y ∷ zs) (set_same xs i x is)
 pub stays_all : {X : Type 0} (xs : List X) (i : ℕ) (x : X) → slice_get xs i ≡ Some x → xs ≡ slice_set xs i x
 stays_all xs i x is = set_same xs i x is
 
-about_by : (b : Authority) (event : DriverEvent) → is_about b event ≡ option_map_or (λ a. same_authority b a) (authority_in event) false
-about_by b (DriverEvent.Opened a) = refl
-about_by b (DriverEvent.Response a payload) = refl
-about_by b (DriverEvent.Bytes a how) = refl
-about_by b (DriverEvent.Lost a) = refl
-about_by b (DriverEvent.Moment time) = refl
-about_by b (DriverEvent.Endpoint address state) = refl
-about_by b DriverEvent.Sweep = refl
+about_no_other : (b : Authority) (event : DriverEvent) → option_map_or (λ a. same_authority b a) (authority_in event) false ≡ false → is_about b event ≡ false
+about_no_other b (DriverEvent.Opened a) other = other
+about_no_other b (DriverEvent.Response a payload) other = other
+about_no_other b (DriverEvent.Bytes a how) other = ap (λ x. x && is_broken how) other
+about_no_other b (DriverEvent.Lost a) other = other
+about_no_other b (DriverEvent.Moment time) other = refl
+about_no_other b (DriverEvent.Endpoint address state) other = refl
+about_no_other b DriverEvent.Sweep other = refl
 
 pub unanswered_none : (s : Setting) (past : List Entry) (refused : List Name) (states : List StreamState) (event : DriverEvent) (v : Verdict) → authority_in event ≡ None → states ≡ states_of s past →
     states ≡ states_with s (came_with event v refused) past
 unanswered_none s past refused states event v none is =
-    is ∙ sym (all_stand s (came_with event v refused) past (λ b. about_by b event ∙ ap (λ o. option_map_or (λ a. same_authority b a) o false) none))
+    is ∙ sym (all_stand s (came_with event v refused) past (λ b. about_no_other b event (ap (λ o. option_map_or (λ a. same_authority b a) o false) none)))
 
 pub unanswered_some : (s : Setting) (past : List Entry) (refused : List Name) (states after : List StreamState) (event : DriverEvent) (v : Verdict) (a : Authority) (t : Turn) →
     authority_in event ≡ Some a → a.0 < length states → answered_kind v ≡ None → t ≡ turn_by a event v → states ≡ states_of s past →
@@ -234,6 +234,6 @@ unanswered_some s past refused states after event v a t whose lt unanswered turn
     let c : Came = came_with event v refused in
     steps (state_of s a past) (state_at s past states a is lt)
     ∙ one_changed s c past states a (turned_state t (state_of s a past)) is lt
-    (λ b other. about_by b event ∙ ap (λ o. option_map_or (λ a. same_authority b a) o false) whose ∙ ne_eqb b.0 a.0 other)
+    (λ b other. about_no_other b event (ap (λ o. option_map_or (λ a. same_authority b a) o false) whose ∙ ne_eqb b.0 a.0 other))
     (ap (λ t. turned_state t (state_of s a past)) turns
     ∙ sym (turns_follow s c a past (λ k. ap (λ o. told_of a k (told_in s refused event o)) unanswered ∙ ap (told_of a k) (none_in s refused event))))

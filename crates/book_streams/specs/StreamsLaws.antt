@@ -1,5 +1,5 @@
 -- Laws of what is kept of the streams.
-use Rattle.std.specs.Prelude.{◌≡◌, ℕ, List, [], ◌∷◌, map, Bool, true, false, if◌then◌else◌, Option, Some, None, Contains, is_some, is_ok, unwrap_or}
+use Rattle.std.specs.Prelude.{◌≡◌, ℕ, List, [], ◌∷◌, map, Bool, true, false, ◌&&◌, if◌then◌else◌, Option, Some, None, Contains, is_some, is_ok, unwrap_or}
 use Rattle.std.specs.List.{list_all, range_with_len}
 use Rattle.xc_base.specs.declared.names.Kind.{Kind}
 use Rattle.xc_base.specs.declared.names.Authority.{Authority}
@@ -15,7 +15,7 @@ use Rattle.call_journal.specs.declared.entry.Entry.{Entry}
 use Rattle.config_assembly.specs.Orders.{Name}
 use Rattle.xds_history.specs.Words.{same_authority}
 use Rattle.xds_history.specs.Setting.{Setting}
-use Rattle.xds_history.specs.Streams.{turn_by, stream, asked}
+use Rattle.xds_history.specs.Streams.{is_broken, turn_by, stream, asked}
 use Rattle.xds_history.specs.declared.turns.Turn.{Turn}
 use Rattle.xds_history.specs.declared.turns.Turn.TheVariants.{Opens, Ends, Stays}
 use Rattle.xds_history.specs.Responses.{Came, answered, told_of, is_asked, verdict, parts}
@@ -71,11 +71,11 @@ NamesFollow = (s : Setting) (actor line : ℕ) (event : DriverEvent) (reply : Dr
     Contains (range_with_len 0 s.authorities) a.0 → reply.sent ≡ requests s (came event reply) past watched →
     step.names_told (state_with s (came event reply) a past) (names_at a watched) ≡ state_of s a (entry_of actor line event reply ∷ past)
 
--- an event of this authority's stream
+-- an event that may change this authority's stream
 abbrev pub is_about : Authority → DriverEvent → Bool
 is_about a (DriverEvent.Opened b) = same_authority a b
 is_about a (DriverEvent.Response b payload) = same_authority a b
-is_about a (DriverEvent.Bytes b how) = same_authority a b
+is_about a (DriverEvent.Bytes b how) = same_authority a b && is_broken how
 is_about a (DriverEvent.Lost b) = same_authority a b
 is_about a _ = false
 
@@ -83,7 +83,7 @@ is_about a _ = false
 abbrev pub OthersStand : Type 0
 OthersStand = (s : Setting) (c : Came) (a : Authority) (past : List Entry) → is_about a c.event ≡ false → state_with s c a past ≡ state_of s a past
 
--- so do a moment, a report and a sweep with all of them
+-- so do a moment, a report, bytes that break no stream and a sweep with all of them
 abbrev pub AllStand : Type 0
 AllStand = (s : Setting) (c : Came) (past : List Entry) → ((a : Authority) → is_about a c.event ≡ false) → states_with s c past ≡ states_of s past
 

@@ -1,11 +1,12 @@
 -- The trees follow after an event came.
-use Rattle.std.proofs.Common.{◌≡◌, ℕ, Bool, List, [], ◌∷◌, map, Option, Some, Result, refl, sym, ap, ◌∙◌, subst}
+use Rattle.std.proofs.Common.{◌≡◌, ℕ, Bool, List, [], ◌∷◌, map, Option, Some, None, Result, refl, sym, ap, ◌∙◌, subst}
 use Rattle.std.specs.Prelude.{IfSome}
 use Rattle.xc_base.specs.declared.names.Time.{Time}
 use Rattle.xc_base.specs.declared.reason.Reason.{Reason}
 use Rattle.xds_config.specs.declared.config.ClusterEntry.{ClusterEntry}
 use Rattle.xds_config.specs.declared.config.Config.{Config}
 use Rattle.xds_config.specs.Configs.{IsLawfulConfig}
+use Rattle.tree_steps.specs.Reports.{Reports}
 use Rattle.tree_steps.specs.declared.tree_view.TreeView.{TreeView}
 use Rattle.cluster_tree.specs.declared.cluster_trees.Cluster.{Cluster}
 use Rattle.cluster_tree.specs.StandingTrees.{Forest, IsUpdatedWith, clusters_after, entries_of, forest_after, views_of}
@@ -19,18 +20,18 @@ use Rattle.xds_history.specs.Page.{config_now, trees_now}
 use Rattle.xds_history.specs.Trees.{trees_after}
 use Rattle.xds_history.specs.Pages.{present_after}
 use Rattle.book_trees.specs.declared.reported_trees.ReportedTrees.{ReportedTrees}
-use Rattle.book_trees.specs.TreesKept.{AreGrown, AreGrownTrees, AreMarked, AreTreesAt, AreTreesWith, IsPageOf, driven, kept_cluster, kept_clusters, views_after}
+use Rattle.book_trees.specs.TreesKept.{AreGrown, AreGrownTrees, AreMarked, AreTreesAt, AreTreesWith, IsPageOf, clusters_of, driven, kept_cluster, kept_clusters, views_after}
 use Rattle.book_trees.proofs.GrownLemmas.{all_grown, clusters_follow, map_map, views_are}
 use Rattle.book_trees.proofs.MarkedLemmas.{are_marked, marks_by_name}
 
-abbrev next_trees : DriverEvent → List Entry → List Page → Config → List ClusterTrees
+abbrev pub next_trees : DriverEvent → List Entry → List Page → Config → List ClusterTrees
 next_trees event past ps config = trees_after (present_after past event) (trees_now ps) (Some config)
 
-next_grown : (event : DriverEvent) (past : List Entry) (ps : List Page) (t : ReportedTrees) (config : Config) → AreTreesWith event past ps t → IsLawfulConfig config → AreGrown t.reports.entries config (next_trees event past ps config)
+pub next_grown : (event : DriverEvent) (past : List Entry) (ps : List Page) (t : ReportedTrees) (config : Config) → AreTreesWith event past ps t → IsLawfulConfig config → AreGrown t.reports.entries config (next_trees event past ps config)
 next_grown event past ps t config with_event lawful =
     all_grown (present_after past event) with_event.last t.reports.entries (config_now ps) (trees_now ps) config with_event.reports_are lawful with_event.forest.grown
 
-clusters_are : (event : DriverEvent) (past : List Entry) (ps : List Page) (t : ReportedTrees) (config : Config) (new : Forest) → AreTreesWith event past ps t → IsLawfulConfig config → new ≡ forest_after t.now t.reports.entries config.clusters t.trees →
+pub clusters_are : (event : DriverEvent) (past : List Entry) (ps : List Page) (t : ReportedTrees) (config : Config) (new : Forest) → AreTreesWith event past ps t → IsLawfulConfig config → new ≡ forest_after t.now t.reports.entries config.clusters t.trees →
     new.clusters ≡ kept_clusters t.reports.entries (Some config) (next_trees event past ps config)
 clusters_are event past ps t config new with_event lawful step =
     let now : Time = (present_after past event).now in
@@ -81,16 +82,19 @@ map_itself : {A : Type 0} (xs : List A) → map (λ x. x) xs ≡ xs
 map_itself [] = refl
 map_itself (x ∷ xs) = ap (λ ys. x ∷ ys) (map_itself xs)
 
-lawful_now : (event : DriverEvent) (past : List Entry) (ps : List Page) (t : ReportedTrees) (config : Config) → AreTreesWith event past ps t → config_now ps ≡ Some config → IsLawfulConfig config
+-- the kept clusters have the entries of the configuration
+pub entries_kept : (reports : Reports) (ps : List Page) (config : Option Config) (forest : Forest) → forest.clusters ≡ kept_clusters reports config (trees_now ps) → entries_of forest.clusters ≡ clusters_of config
+entries_kept reports ps None forest are = ap entries_of are
+entries_kept reports ps (Some config) forest are =
+    ap entries_of are ∙ (map_map (λ (c : Cluster). c.entry) (kept_cluster reports (trees_now ps)) config.clusters ∙ map_itself config.clusters)
+
+pub lawful_now : (event : DriverEvent) (past : List Entry) (ps : List Page) (t : ReportedTrees) (config : Config) → AreTreesWith event past ps t → config_now ps ≡ Some config → IsLawfulConfig config
 lawful_now event past ps t config with_event is = subst (λ c. IfSome c IsLawfulConfig) is with_event.forest.lawful
 
 step_on : (event : DriverEvent) (past : List Entry) (ps : List Page) (t : ReportedTrees) (config : Config) (new : Forest) → AreTreesWith event past ps t → config_now ps ≡ Some config → new ≡ forest_after t.now t.reports.entries (entries_of t.trees.clusters) t.trees →
     new ≡ forest_after t.now t.reports.entries config.clusters t.trees
 step_on event past ps t config new with_event is step =
-    let kept : ClusterEntry → Cluster = kept_cluster with_event.last (trees_now ps) in
-    let entries : entries_of t.trees.clusters ≡ config.clusters =
-    ap entries_of (with_event.forest.clusters_are ∙ ap (λ (c : Option Config). kept_clusters with_event.last c (trees_now ps)) is)
-    ∙ (map_map (λ (c : Cluster). c.entry) kept config.clusters ∙ map_itself config.clusters) in
+    let entries : entries_of t.trees.clusters ≡ config.clusters = entries_kept with_event.last ps (config_now ps) t.trees with_event.forest.clusters_are ∙ ap clusters_of is in
     step ∙ ap (λ (es : List ClusterEntry). forest_after t.now t.reports.entries es t.trees) entries
 
 pub views_stay : (event : DriverEvent) (past : List Entry) (ps : List Page) (t : ReportedTrees) (config : Config) (new : Forest) (seen : List (Result TreeView Reason)) → new ≡ forest_after t.now t.reports.entries (entries_of t.trees.clusters) t.trees →

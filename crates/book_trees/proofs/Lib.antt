@@ -7,4 +7,5 @@ pub mod MarkedLemmas
 pub mod FollowLemmas
 pub mod DueNumberLemmas
 pub mod ServedLemmas
+pub mod StayingLemmas
 pub mod TypedLemmas

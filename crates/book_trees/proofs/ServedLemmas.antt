@@ -1,6 +1,6 @@
 -- The localities of the children that serve calls.
 use Rattle.std.proofs.Common.{◌≡◌, ℕ, zero, suc, ◌<◌, Bool, true, false, cond, List, [], ◌∷◌, length, get_or, Option, Some, None, Result, Ok, Err, refl, sym, ap, ◌∙◌, subst, arith}
-use Rattle.std.specs.Prelude.{All, IfOk, IfSome, option_map, slice_get, unwrap_or}
+use Rattle.std.specs.Prelude.{All, Contains, IfOk, IfSome, option_map, slice_get, unwrap_or}
 use Rattle.std.specs.Map.{lookup}
 use Rattle.std.specs.Ordering.{nat_cmp, is_eq}
 use Rattle.std.specs.Cmp.Lexicographic.{slice_cmp}
@@ -23,16 +23,18 @@ use Rattle.cluster_tree.specs.declared.cluster_trees.Cluster.{Cluster}
 use Rattle.cluster_tree.specs.StandingTrees as kept
 use Rattle.cluster_tree.specs.ViewChanges as seen
 use Rattle.call_journal.specs.declared.event.DriverEvent.{DriverEvent}
+use Rattle.call_journal.specs.declared.entry.Entry.{Entry}
 use Rattle.config_assembly.specs.Orders.{Name}
 use Rattle.xds_history.specs.declared.page.Tree.{Tree}
 use Rattle.xds_history.specs.declared.page.ClusterTrees.{ClusterTrees}
+use Rattle.xds_history.specs.declared.page.Page.{Page}
 use Rattle.xds_history.specs.Clock.{reported, state}
 use Rattle.xds_history.specs.Page.{config_now, trees_now}
 use Rattle.xds_history.specs.Trees.{Present, alone, chosen_place, grown, is_same_kind, leaves_now, new_tree, switched, tree_state, trees_of, trees_with, trees_after}
 use Rattle.xds_history.specs.Pickers.{children_view, cluster_view, tree_view, view_with}
 use Rattle.xds_history.specs.Pages.{present_after}
 use Rattle.book_trees.specs.TreesKept.{AreGrown, AreGrownTrees, AreReportsOf, IsGrownPair, IsGrownTree, StandsFor, kept_cluster, kept_clusters, kept_state, leaves_of}
-use Rattle.book_trees.specs.ServedPlaces.{served_localities}
+use Rattle.book_trees.specs.ServedPlaces.{served_in, served_localities}
 use Rattle.book_trees.specs.ReportedLaws.{StayKeepsPlaces, TreesServe}
 use Rattle.book_trees.proofs.GrownLemmas.{Stands, all_grown, entry_trees, same_both, trees_here}
 use Rattle.book_trees.proofs.SeenLemmas.{served_is}
@@ -40,12 +42,12 @@ use Rattle.book_trees.proofs.CameLemmas.{reports_more}
 
 -- ---- the localities of the chosen child
 
-holds_there : {X : Type 0} (P : X → Type 0) (xs : List X) (k : ℕ) (x : X) → All P xs → slice_get xs k ≡ Some x → P x
+pub holds_there : {X : Type 0} (P : X → Type 0) (xs : List X) (k : ℕ) (x : X) → All P xs → slice_get xs k ≡ Some x → P x
 holds_there P [] k x all is = absurd (cc)
 holds_there P (y ∷ ys) zero x all is = let same : y ≡ x = cc in subst P same (all 0 y (omega arith))
 holds_there P (y ∷ ys) (suc k) x all is = holds_there P ys k x (λ j d lt. all (suc j) d (omega (arith, lt))) is
 
-served_by : (reports : Reports) (state : Result Leaves Reason) (trees : Option (Pair Tree)) → StandsFor reports state trees →
+pub served_by : (reports : Reports) (state : Result Leaves Reason) (trees : Option (Pair Tree)) → StandsFor reports state trees →
     option_map_or (λ ts. chosen_localities ts.serving) (kept.trees_in (kept_state reports trees state)) [] ≡ option_map_or (λ pair. served_localities pair.serving) trees []
 served_by reports (Ok leaves) (Some pair) is = sym (served_is reports pair.serving is.serving)
 served_by reports (Ok leaves) None is = absurd is
@@ -145,16 +147,20 @@ trees_made p old name (Err reason) = tt
 at_place : (entries : List ClusterEntry) (c : ClusterEntry) (k : ℕ) (P : ClusterEntry → Type 0) → k < length entries → get_or entries k c ≡ c → All P entries → P c
 at_place entries c k P lt is all = subst P is (all k c lt)
 
-pub stay_keeps_places : StayKeepsPlaces
-stay_keeps_places past ps t event config c at now (k, lt, is) seen =
+-- the localities of a cluster of which the same is seen, where addresses had reported these states at the last update
+pub localities_stay : (past : List Entry) (ps : List Page) (last : Reports) (event : DriverEvent) (config : Config) (c : ClusterEntry) → AreReportsOf (state past) last → AreGrown last config (trees_now ps) → IsLawfulConfig config →
+    config_now ps ≡ Some config → Contains config.clusters c → cluster_view (state past) (trees_now ps) c ≡ cluster_view (present_after past event).state (trees_after (present_after past event) (trees_now ps) (Some config)) c →
+    served_in (trees_now ps) c.name ≡ served_in (trees_after (present_after past event) (trees_now ps) (Some config)) c.name
+localities_stay past ps last event config c reported was lawful now (k, lt, is) seen =
     let p : Present = present_after past event in
-    let last : Reports = t.reports.entries in
-    let (reports, agree) = event_reports (state past) last event at.reports_are in
-    let lawful : IsLawfulConfig config = subst (λ o. IfSome o IsLawfulConfig) now at.forest.lawful in
-    let was : AreGrown last config (trees_now ps) = subst (λ o. AreGrownTrees last o (trees_now ps)) now at.forest.grown in
+    let (reports, agree) = event_reports (state past) last event reported in
     let new : List ClusterTrees = trees_after p (trees_now ps) (Some config) in
-    let grown_new : AreGrown reports config new = all_grown p last reports (config_now ps) (trees_now ps) config agree lawful at.forest.grown in
+    let grown_new : AreGrown reports config new = all_grown p last reports (config_now ps) (trees_now ps) config agree lawful (subst (λ o. AreGrownTrees last o (trees_now ps)) (sym now) was) in
     let here : trees_of c.name new ≡ entry_trees p (trees_now ps) c = subst (λ x. trees_of x.name new ≡ entry_trees p (trees_now ps) x) is (trees_here p (trees_now ps) config k c lawful.rising lt) in
     state_localities (state past) p last reports (trees_now ps) new c.name c.state (trees_of c.name (trees_now ps)) (trees_of c.name new) refl refl
     (at_place config.clusters c k (Stands last (trees_now ps)) lt is was.each) (at_place config.clusters c k (Stands reports new) lt is grown_new.each)
     (subst (λ o. IfOk c.state (λ leaves. o ≡ Some (trees_with p leaves (trees_of c.name (trees_now ps))))) (sym here) (trees_made p (trees_now ps) c.name c.state)) seen
+
+pub stay_keeps_places : StayKeepsPlaces
+stay_keeps_places past ps t event config c at now there seen =
+    localities_stay past ps t.reports.entries event config c at.reports_are (subst (λ o. AreGrownTrees t.reports.entries o (trees_now ps)) now at.forest.grown) (subst (λ o. IfSome o IsLawfulConfig) now at.forest.lawful) now there seen

@@ -1,6 +1,7 @@
 -- What is kept of the trees, and what it is of the history.
-use Rattle.std.specs.Prelude.{◌≡◌, ◌<◌, ℕ, List, [], ◌∷◌, map, length, get_or, All, Bool, false, cond, Option, Some, None, Result, Ok, Err, IfSome, option_map, option_and_then}
+use Rattle.std.specs.Prelude.{◌≡◌, ◌<◌, ℕ, List, [], ◌∷◌, map, length, get_or, All, Bool, false, cond, Option, Some, None, Result, Ok, Err, IfSome, option_map, option_and_then, slice_get}
 use Rattle.std.specs.List.{find, zip}
+use Rattle.std.specs.Option.{option_map_or}
 use Rattle.std.specs.Str.{bytes_eq}
 use Rattle.std.specs.Map.{lookup}
 use Rattle.std.specs.Ordering.{nat_cmp, is_eq}
@@ -36,6 +37,7 @@ use Rattle.xds_history.specs.Trees.{Present, is_same_kind, leaves_now, updates, 
 use Rattle.xds_history.specs.Pickers.{cluster_view, views}
 use Rattle.xds_history.specs.Pages.{present_after}
 use Rattle.book_trees.specs.declared.reported_trees.ReportedTrees.{ReportedTrees}
+use Rattle.book_trees.specs.ServedPlaces.{served_in}
 
 -- ---- a tree by its life
 
@@ -171,3 +173,23 @@ pub record AreMarked (marks : List Bool) (past : List Entry) (ps : List Page) (c
   pub seen_count : length seen ≡ length config.clusters
   pub each : (place : ℕ) (c : ClusterEntry) (v : Result TreeView Reason) → place < length config.clusters →
       IsChangeMark (get_or marks place false) (seen_before past ps (get_or config.clusters place c).name) (get_or seen place v)
+
+-- ---- what stands still
+
+-- a cluster of the configuration is the one that stood at its place, and what is seen of it and served by it stays
+pub record StaysInPlace (event : DriverEvent) (past : List Entry) (ps : List Page) (config : Config) (place : ℕ) (entry : ClusterEntry) : Type 0 where
+  pub entry_stays : option_and_then (λ c. slice_get c.clusters place) (config_now ps) ≡ Some entry
+  pub seen_stays : cluster_view (state past) (trees_now ps) entry ≡ cluster_view (present_after past event).state (trees_after (present_after past event) (trees_now ps) (Some config)) entry
+  pub served_stays : served_in (trees_now ps) entry.name ≡ served_in (trees_after (present_after past event) (trees_now ps) (Some config)) entry.name
+
+-- each cluster without a mark does
+pub record StayInPlace (marks : List Bool) (event : DriverEvent) (past : List Entry) (ps : List Page) (config : Config) : Type 0 where
+  pub count : length marks ≡ length config.clusters
+  pub each : (place : ℕ) (entry : ClusterEntry) → slice_get config.clusters place ≡ Some entry → get_or marks place false ≡ false → StaysInPlace event past ps config place entry
+
+-- the clusters of a configuration, if there is one, and their names
+abbrev pub clusters_of : Option Config → List ClusterEntry
+clusters_of config = option_map_or (λ c. c.clusters) config []
+
+abbrev pub cluster_names : Option Config → List Name
+cluster_names config = map (λ entry. entry.name) (clusters_of config)

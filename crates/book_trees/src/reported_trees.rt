@@ -6,13 +6,14 @@ ghost use Rattle.xds_config.specs.declared.config.Config.{Config as ConfigValue}
 ghost use Rattle.xds_config.specs.declared.config.ClusterEntry.{ClusterEntry};
 ghost use Rattle.xds_config.specs.Configs.{IsLawfulConfig};
 ghost use Rattle.cluster_tree.specs.StandingTrees.{ChangesAt};
+ghost use Rattle.cluster_tree.specs.ClusterUsers.{EntriesStay};
 ghost use Rattle.cluster_tree.specs.ViewChanges.{ArePickable};
 ghost use Rattle.xds_history.specs.declared.page.Page.{Page};
 ghost use Rattle.xds_history.specs.Page.{config_now, trees_now};
-ghost use Rattle.book_trees.specs.TreesKept.{AreMarked, AreTreesAt, AreTreesWith, IsPageOf, IsReport, driven, reported_in, views_after};
+ghost use Rattle.book_trees.specs.TreesKept.{AreMarked, AreTreesAt, AreTreesWith, IsPageOf, IsReport, StayInPlace, driven, reported_in, views_after};
 
 use call_journal::DriverEvent;
-use cluster_tree::{Trees, UpdatedViews};
+use cluster_tree::{FollowedViews, Trees, UpdatedViews};
 use std::alloc::Global;
 use std::collections::BTreeMap;
 use std::slice;
@@ -82,24 +83,30 @@ impl ReportedTrees {
     }
 
     /// Brings the trees to a configuration, where this event came. It answers what is seen of each cluster, and which of it
-    /// differs from what was seen of the cluster of its name. A cluster that is the same as in the configuration before costs
-    /// little, if it reads no address whose state was reported and has no timer that runs. After want of memory nothing is
-    /// said of what is kept.
+    /// differs from what was seen of the cluster of its name, and which cluster may be another one than stood at its place. A
+    /// cluster that is the same as in the configuration before costs little, if it reads no address whose state was reported
+    /// and has no timer that runs; entries are compared where `others` marks them, and one without a mark is known to be the
+    /// one that stood at its place. After want of memory nothing is said of what is kept.
     pub fn follow(
         &mut self,
         event: &DriverEvent,
         config: &Shared<Config>,
-    ) -> Result<UpdatedViews, Memory>
+        others: &[bool],
+    ) -> Result<FollowedViews, Memory>
         requires lawful { IsLawfulConfig config.now }
         requires changes { ChangesAt (reported_in event.now) self.old.reports.entries self.old.trees }
-        ensures views { IfOk result (λ seen. (past : List Entry) (ps : List Page) → AreTreesWith event.now past ps self.old → seen.views ≡ views_after event.now past ps config.now) }
-        ensures changed { IfOk result (λ seen. (past : List Entry) (ps : List Page) → AreTreesWith event.now past ps self.old → AreMarked seen.changed.items past ps config.now seen.views) }
-        ensures pickable { IfOk result (λ seen. ArePickable seen.views) }
+        requires others { EntriesStay others.now self.old.trees.clusters config.now.clusters }
+        ensures views { IfOk result (λ followed. (past : List Entry) (ps : List Page) → AreTreesWith event.now past ps self.old → followed.seen.views ≡ views_after event.now past ps config.now) }
+        ensures changed { IfOk result (λ followed. (past : List Entry) (ps : List Page) → AreTreesWith event.now past ps self.old → AreMarked followed.seen.changed.items past ps config.now followed.seen.views) }
+        ensures still { IfOk result (λ followed. (past : List Entry) (ps : List Page) → AreTreesWith event.now past ps self.old → StayInPlace followed.anew.items event.now past ps config.now) }
+        ensures pickable { IfOk result (λ followed. ArePickable followed.seen.views) }
         ensures kept { OnOk result ((past : List Entry) (ps : List Page) (actor line : ℕ) (reply : DriverReply) (page : Page) → AreTreesWith event.now past ps self.old → IsPageOf event.now past ps (Some config.now) page → AreTreesAt (driven actor line event.now reply ∷ past) (page ∷ ps) self.new) }
     {
         let changed = reported_in(event);
-        let seen = self.trees.update(config, &self.reports, self.now, changed)?;
-        Ok(seen)
+        let followed = self
+            .trees
+            .update(config, &self.reports, self.now, changed, others)?;
+        Ok(followed)
     }
 
     /// The same with the configuration of the driver's entry before. A cluster that reads no address whose state was reported
@@ -108,6 +115,7 @@ impl ReportedTrees {
         requires { ChangesAt (reported_in event.now) self.old.reports.entries self.old.trees }
         ensures views { IfOk result (λ seen. (past : List Entry) (ps : List Page) (config : ConfigValue) → AreTreesWith event.now past ps self.old → config_now ps ≡ Some config → seen.views ≡ views_after event.now past ps config) }
         ensures changed { IfOk result (λ seen. (past : List Entry) (ps : List Page) (config : ConfigValue) → AreTreesWith event.now past ps self.old → config_now ps ≡ Some config → AreMarked seen.changed.items past ps config seen.views) }
+        ensures still { IfOk result (λ seen. (past : List Entry) (ps : List Page) (config : ConfigValue) → AreTreesWith event.now past ps self.old → config_now ps ≡ Some config → StayInPlace seen.changed.items event.now past ps config) }
         ensures pickable { IfOk result (λ seen. ArePickable seen.views) }
         ensures kept { OnOk result ((past : List Entry) (ps : List Page) (config : ConfigValue) (actor line : ℕ) (reply : DriverReply) (page : Page) → AreTreesWith event.now past ps self.old → config_now ps ≡ Some config → IsPageOf event.now past ps (Some config) page → AreTreesAt (driven actor line event.now reply ∷ past) (page ∷ ps) self.new) }
     {

@@ -18,5 +18,5 @@ kept_send = declared_send Kept.the_type (search (sendable, crosses, maps, list_s
 
 pub deps_send : IsSend Deps.the_row
 deps_send =
-    let inside : IsSend DepsInside.the_row = declared_send DepsInside.the_type (search (sendable, crosses, target_send, list_send, key_send, kept_send) depth 30 steps 3000000) in
+    let inside : IsSend DepsInside.the_row = declared_send DepsInside.the_type (search (sendable, crosses, target_send, list_send, key_send, kept_send, shared_send, config_send, config_sync) depth 30 steps 3000000) in
     search (sendable, inside) depth 6 steps 300000

@@ -1,6 +1,6 @@
 -- Clusters before and after an update, side by side in the order of their names.
-use Rattle.std.proofs.Common.{◌≡◌, ◌<◌, ◌≤◌, ◌+◌, ◌||◌, ℕ, suc, Bool, true, false, cond, List, [], ◌∷◌, ◌++◌, length, take, get_or, Option, Some, None, Result, Ok, Err, ◌⊎◌, inl, inr, refl, sym, ap, ◌∙◌, subst, arith}
-use Rattle.std.specs.Prelude.{All, AllPairs, IfOk, bytes_eq, find, not, nat_lt, ◌==◌, slice_get}
+use Rattle.std.proofs.Common.{◌≡◌, ◌<◌, ◌≤◌, ◌+◌, ◌&&◌, ◌||◌, ℕ, suc, Bool, true, false, cond, List, [], ◌∷◌, ◌++◌, length, take, get_or, Option, Some, None, Result, Ok, Err, ◌⊎◌, inl, inr, refl, sym, ap, ◌∙◌, subst, arith, eqb-true}
+use Rattle.std.specs.Prelude.{All, AllPairs, IfOk, IfSome, bytes_eq, find, not, nat_lt, option_map, ◌==◌, slice_get}
 use Rattle.std.specs.Ordering.{nat_cmp, is_eq, ordering_reverse}
 use Rattle.std.specs.declared.cmp.Ordering.{Ordering}
 use Rattle.std.specs.declared.cmp.Ordering.TheVariants.{Less, Equal, Greater}
@@ -20,7 +20,7 @@ use Rattle.cluster_tree.specs.declared.cluster_trees.Standing.{Standing}
 use Rattle.tree_steps.specs.Reports.{Reports}
 use Rattle.tree_steps.specs.Users.{UserList, ReadsLeaves}
 use Rattle.cluster_tree.specs.StandingTrees.{cluster_after, cluster_named, clusters_after, is_quiet_in}
-use Rattle.cluster_tree.specs.ClusterUsers.{AreRising, IsReached, AreReadIn, AreReadBut, AreIndexed, StandBut, IsSound, StaysUnmarked}
+use Rattle.cluster_tree.specs.ClusterUsers.{AreRising, IsReached, AreReadIn, AreReadBut, AreIndexed, EntriesStay, StandBut, IsSound, StaysUnmarked}
 use Rattle.cluster_tree.proofs.ForestLemmas.{find_first, names_differ, not_due}
 
 -- ---- the cluster of a name stands at the place that is reached, if anywhere
@@ -97,6 +97,30 @@ found_other clusters place c name rising reached is other =
 pub found_none : (clusters : List Cluster) (place : ℕ) (name : List ℕ) → AreRising clusters → IsReached clusters name place → slice_get clusters place ≡ None → None ≡ cluster_named name clusters
 found_none clusters place name rising reached is =
     sym (named_nowhere clusters place name rising reached (λ d lt. (let clash : Some (get_or clusters place d) ≡ None = sym (slice_get-get_or clusters place d lt) ∙ is in absurd (cc))))
+
+-- ---- an entry without a mark
+
+both_true : (a b : Bool) → (a && b) ≡ true → (a ≡ true) × (b ≡ true)
+both_true true b is = (refl, is)
+both_true false b is = absurd (cc is)
+
+unmarked_off : (mark : Bool) → not mark ≡ true → mark ≡ false
+unmarked_off true is = absurd (cc is)
+unmarked_off false is = refl
+
+-- it is that of the cluster that stood at its place
+pub known_entry : (marks : List Bool) (old : List Cluster) (entries : List ClusterEntry) (from place : ℕ) (entry : ClusterEntry) (before : Option Cluster) → EntriesStay marks old entries → place < length entries → entry ≡ get_or entries place entry →
+    IfSome before (λ c. (from < length old) × (get_or old from c ≡ c)) → ((from == place) && not (get_or marks place false)) ≡ true → IfSome before (λ c. c.entry ≡ entry)
+known_entry marks old entries from place entry None stay lt is at known = tt
+known_entry marks old entries from place entry (Some c) stay lt is (within, at) known =
+    let both = both_true (from == place) (not (get_or marks place false)) known in
+    let here : slice_get old place ≡ Some c = subst (λ (n : ℕ). slice_get old n ≡ Some c) (eqb-true from place both.0) (slice_get-get_or old from c within ∙ ap (λ (x : Cluster). let o : Option Cluster = Some x in o) at) in
+    let there : slice_get entries place ≡ Some entry = slice_get-get_or entries place entry lt ∙ ap (λ (x : ClusterEntry). let o : Option ClusterEntry = Some x in o) (sym is) in
+    let own : Some c.entry ≡ Some entry = sym (ap (option_map (λ (x : Cluster). x.entry)) here) ∙ stay place entry there (unmarked_off (get_or marks place false) both.1) in
+    same_entry c.entry entry own
+  where
+    same_entry : (a b : ClusterEntry) → Some a ≡ Some b → a ≡ b
+    same_entry a b is = cc
 
 -- ---- the loop that passes the clusters in front of a name
 

@@ -1,8 +1,9 @@
 -- Clusters among those that read the states of addresses, and which of them an update leaves as they are.
-use Rattle.std.specs.Prelude.{◌≡◌, ◌<◌, ◌⊎◌, ℕ, Bool, List, length, get_or, AllPairs, Result, true, false, IfOk, ◌≤◌, Some}
+use Rattle.std.specs.Prelude.{◌≡◌, ◌<◌, ◌⊎◌, ℕ, Bool, List, length, get_or, AllPairs, Result, true, false, IfOk, ◌≤◌, Some, option_map, slice_get}
 use Rattle.xc_base.specs.declared.reason.Reason.{Reason}
 use Rattle.xc_base.specs.declared.names.Time.{Time}
 use Rattle.xds_config.specs.declared.config.Leaves.{Leaves}
+use Rattle.xds_config.specs.declared.config.ClusterEntry.{ClusterEntry}
 use Rattle.xds_config.specs.Configs.{IsNameBefore}
 use Rattle.cluster_tree.specs.declared.cluster_trees.Cluster.{Cluster}
 use Rattle.cluster_tree.specs.declared.cluster_trees.Standing.{Standing}
@@ -39,6 +40,10 @@ pub record IsReached (clusters : List Cluster) (name : List ℕ) (place : ℕ) :
 pub record StandBut (marks : List Bool) (old new : List Cluster) : Type 0 where
   pub count : length marks ≡ length new
   pub each : (place : ℕ) (d : Cluster) → place < length new → get_or marks place false ≡ false → (place < length old) × (get_or new place d ≡ get_or old place d)
+
+-- an entry without a mark is that of the cluster that stood at its place
+abbrev pub EntriesStay : List Bool → List Cluster → List ClusterEntry → Type 0
+EntriesStay marks old entries = (place : ℕ) (entry : ClusterEntry) → slice_get entries place ≡ Some entry → get_or marks place false ≡ false → option_map (λ c. c.entry) (slice_get old place) ≡ Some entry
 
 -- the clusters have names in rising order, and are among those that read their addresses
 pub record AreIndexed (users : UserList) (clusters : List Cluster) : Type 0 where

@@ -26,6 +26,17 @@ pub(crate) struct Turn {
     pub(crate) times: Times,
     /// Whether the cluster reads an address whose state changed.
     pub(crate) marked: bool,
+    /// Whether its entry is known to be the same as before.
+    pub(crate) is_known: bool,
+}
+
+/// Which clusters may not stay as they are.
+#[derive(Clone, Copy)]
+pub(crate) struct Marks<'a> {
+    /// For each cluster from before, whether it reads an address whose state changed.
+    pub(crate) readers: &'a [bool],
+    /// For each entry of the configuration, whether it may be another one than stood at its place.
+    pub(crate) entries: &'a [bool],
 }
 
 /// The clusters of a configuration after an update.
@@ -124,10 +135,11 @@ pub(crate) fn is_due(cluster: &Cluster, turn: Turn) -> bool
 
 /// Whether a cluster stays as it is: its entry does, and it doesn't have to take the update.
 fn stays(cluster: &Cluster, entry: &ClusterEntry, turn: Turn) -> bool
+    requires { turn.is_known ≡ true → cluster.now.entry ≡ entry.now }
     ensures due { result ≡ true → (turn.marked || not (is_quiet_in cluster.now.state) || nat_lt turn.times.this.0 turn.times.last.0) ≡ false }
     ensures same { result ≡ true → cluster.now.entry ≡ entry.now }
 {
-    !is_due(cluster, turn) && cluster.entry.get().same(entry)
+    !is_due(cluster, turn) && (turn.is_known || cluster.entry.get().same(entry))
 }
 
 /// A cluster that stays as it is.
@@ -143,7 +155,7 @@ fn same_cluster(cluster: &Cluster) -> Result<NextCluster, Memory>
 }
 
 /// The cluster of an entry after an update, or want of memory. It is made anew only where the entry isn't the same as
-/// before, or the cluster has to take the update.
+/// before, or the cluster has to take the update. Entries are compared where nothing is known of them.
 pub(crate) fn next_cluster(
     alloc: Global,
     reports: &BTreeMap<Address, State>,
@@ -153,6 +165,7 @@ pub(crate) fn next_cluster(
 ) -> Result<NextCluster, Memory>
     requires lawful { IfOk entry.now.state AreLawfulLeaves }
     requires unmarked { IfSome (option_map (λ r. r.now) before) (λ c. StaysUnmarked turn.times.last turn.times.this reports.now.entries turn.marked c) }
+    requires known { turn.is_known ≡ true → IfSome (option_map (λ r. r.now) before) (λ c. c.entry ≡ entry.now) }
     ensures changed { IfOk result (λ next. IsChangeMark next.changed (option_map seen_of (option_map (λ r. r.now) before.entry)) (seen_of next.cluster)) }
     ensures cluster { IfOk result (λ next. next.cluster ≡ cluster_after turn.times.this reports.now.entries entry.now (option_map (λ r. r.now) before.entry)) }
     ensures anew { IfOk result (λ next. next.anew ≡ false → option_map (λ r. r.now) before.entry ≡ Some next.cluster) }

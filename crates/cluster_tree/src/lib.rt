@@ -10,4 +10,4 @@ pub mod trees;
 
 pub use snapshot::Snapshot;
 pub use tree_steps::{NamedChild, TreeView};
-pub use trees::{Trees, UpdatedViews};
+pub use trees::{FollowedViews, Trees, UpdatedViews};

@@ -2,12 +2,12 @@
 ghost use Rattle.std.specs.Prelude.{◌≡◌, ◌<◌, ◌^◌, [], false, length, map, option_map, All, AllPairs, IfOk, OnOk, Some, set};
 ghost use Rattle.xds_config.specs.Configs.{IsLawfulConfig, IsNameBefore, AreLawfulLeaves};
 ghost use Rattle.cluster_tree.specs.StandingTrees.{clusters_after, cluster_after, views_of, no_clusters, entries_of, forest_after, IsUpdatedWith, ChangesAt};
-ghost use Rattle.cluster_tree.specs.ClusterUsers.{AreReadIn, AreRead, AreReadBut, OthersStay, AreStepped, StandBut};
+ghost use Rattle.cluster_tree.specs.ClusterUsers.{AreReadIn, AreRead, AreReadBut, EntriesStay, OthersStay, AreStepped, StandBut};
 ghost use Rattle.tree_steps.specs.Users.{Grows};
 ghost use Rattle.cluster_tree.specs.ViewChanges.{seen_of, IsChangeMark, MarkChanges, MarkChangesInPlace, ArePickable, localities_at};
 
 use crate::cluster_merge::{
-    NextClusters, Times, Turn, first_not_before, is_due, is_marked, named_at, next_cluster,
+    Marks, NextClusters, Times, Turn, first_not_before, is_due, is_marked, named_at, next_cluster,
 };
 use crate::cluster_trees::{
     Cluster, NextCluster, add_users, cluster_after, served_localities, view_of,
@@ -28,6 +28,16 @@ pub struct UpdatedViews {
     pub views: List<Result<Shared<TreeView>, Reason>>,
     /// For each cluster, whether what is seen of it differs from what the update before gave of it.
     pub changed: Vec<bool>,
+}
+
+/// What is seen of the clusters of a configuration that the trees were brought to.
+#[derive(Drop)]
+pub struct FollowedViews {
+    /// What is seen of them.
+    pub seen: UpdatedViews,
+    /// For each cluster, whether it may be another one than the one that stood at its place: in its entry, in its trees
+    /// or in what is seen of them.
+    pub anew: Vec<bool>,
 }
 
 /// The trees of the clusters of a configuration, of which there are fewer than 2^31. Contracts see them as
@@ -137,6 +147,7 @@ fn step_clusters(
         let turn = Turn {
             times,
             marked: marks[place],
+            is_known: true,
         };
         if is_due(&clusters[place], turn) {
             let next = step_cluster(alloc, reports, times.this, &clusters[place])?;
@@ -197,11 +208,12 @@ impl Trees {
         reports: &BTreeMap<Address, State>,
         now: Time,
         entries: &[Shared<ClusterEntry>],
-        marks: &[bool],
+        marks: Marks<'_>,
     ) -> Result<NextClusters, Memory>
         requires lawful { All (λ entry. IfOk entry.state AreLawfulLeaves) entries.now }
         requires rising { AllPairs (λ a b. IsNameBefore a.name b.name) entries.now }
-        requires others { OthersStay self.now.now now reports.now.entries marks.now self.now.clusters }
+        requires others { OthersStay self.now.now now reports.now.entries marks.readers.now self.now.clusters }
+        requires known { EntriesStay marks.entries.now self.now.clusters entries.now }
         ensures changed { IfOk result (λ next. MarkChanges next.changed.items self.now.clusters next.clusters.items) }
         ensures clusters { IfOk result (λ next. next.clusters.items ≡ clusters_after now reports.now.entries entries.now self.now.clusters) }
         ensures anew { IfOk result (λ next. StandBut next.anew.items self.now.clusters next.clusters.items) }
@@ -218,7 +230,8 @@ impl Trees {
             let before = named_at(old, from, &entry.get().name);
             let turn = Turn {
                 times,
-                marked: is_marked(marks, from),
+                marked: is_marked(marks.readers, from),
+                is_known: from == place && !is_marked(marks.entries, place),
             };
             let cluster = next_cluster(self.alloc, reports, turn, entry, before)?;
             next.push(cluster, from != place)?;
@@ -228,35 +241,46 @@ impl Trees {
 
     /// Brings the trees to a configuration, to the states that addresses reported last, and to the time in
     /// milliseconds, where every address whose state differs from that of the last update is one of `changed`. It
-    /// answers what is seen of each cluster, and whether that differs from what was seen of the cluster of its name.
-    /// A cluster whose entry is the same as before costs little, if it reads none of the addresses and has no timer that
-    /// runs. After want of memory the trees are spent.
+    /// answers what is seen of each cluster, whether that differs from what was seen of the cluster of its name, and
+    /// whether the cluster may be another one than stood at its place. A cluster whose entry is the same as before costs
+    /// little, if it reads none of the addresses and has no timer that runs. Entries are compared where `others` marks
+    /// them: one without a mark is known to be the one that stood at its place. After want of memory the trees are spent.
     pub fn update(
         &mut self,
         config: &Shared<Config>,
         reports: &BTreeMap<Address, State>,
         now: Time,
         changed: &[Address],
-    ) -> Result<UpdatedViews, Memory>
+        others: &[bool],
+    ) -> Result<FollowedViews, Memory>
         requires lawful { IsLawfulConfig config.now }
         requires changes { ChangesAt changed.now reports.now.entries self.old }
+        requires others { EntriesStay others.now self.old.clusters config.now.clusters }
         ensures step { OnOk result (self.new ≡ forest_after now reports.now.entries config.now.clusters self.old) }
-        ensures views { IfOk result (λ updated. updated.views ≡ views_of self.new.clusters) }
-        ensures changed { IfOk result (λ updated. MarkChanges updated.changed.items self.old.clusters self.new.clusters) }
-        ensures pickable { IfOk result (λ updated. ArePickable updated.views) }
+        ensures views { IfOk result (λ followed. followed.seen.views ≡ views_of self.new.clusters) }
+        ensures changed { IfOk result (λ followed. MarkChanges followed.seen.changed.items self.old.clusters self.new.clusters) }
+        ensures anew { IfOk result (λ followed. StandBut followed.anew.items self.old.clusters self.new.clusters) }
+        ensures pickable { IfOk result (λ followed. ArePickable followed.seen.views) }
         ensures updated { OnOk result (IsUpdatedWith reports.now.entries self.new) }
     {
         let entries = config.get().clusters.as_slice();
-        let marks = marks_of(self.alloc, &self.users, changed, self.clusters.len())?;
-        let next = self.clusters_after(reports, now, entries, &marks)?;
+        let readers = marks_of(self.alloc, &self.users, changed, self.clusters.len())?;
+        let marks = Marks {
+            readers: &readers,
+            entries: others,
+        };
+        let next = self.clusters_after(reports, now, entries, marks)?;
         let views = views_of(self.alloc, &next.clusters)?;
         self.time = now;
         self.clusters = Vec::new(self.alloc);
         follow_users(self.alloc, &mut self.users, &next)?;
         self.clusters = next.clusters;
-        Ok(UpdatedViews {
-            views,
-            changed: next.changed,
+        Ok(FollowedViews {
+            seen: UpdatedViews {
+                views,
+                changed: next.changed,
+            },
+            anew: next.anew,
         })
     }
 

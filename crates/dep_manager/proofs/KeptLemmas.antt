@@ -1,6 +1,8 @@
 -- What is kept, and what an update comes to by it.
 use Rattle.std.proofs.Common.{◌≡◌, ℕ, ◌+◌, ◌≤◌, arith, Bool, true, false, Option, Some, None, Result, Ok, Err, List, [], ◌∷◌, ◌++◌, map, refl, sym, ap, ◌∙◌, subst, is_some}
-use Rattle.std.specs.Prelude.{Contains, IfSome, IsSome, if◌then◌else◌, option_map, unwrap_or}
+use Rattle.std.specs.Prelude.{Contains, IfSome, IsSome, IsSomeAnd, if◌then◌else◌, option_map, unwrap_or}
+use Rattle.std.specs.declared.alloc.Global.{Global}
+use Rattle.std.specs.declared.vec.Vec.{Vec}
 use Rattle.xc_keys.proofs.MemberLemmas.{from_mapped}
 use Rattle.xc_base.specs.declared.names.Home.{Home}
 use Rattle.xc_base.specs.declared.names.Kind.{Kind}
@@ -24,7 +26,8 @@ use Rattle.config_assembly.specs.WholeConfigs.{cluster_entry, cluster_state, con
 use Rattle.config_assembly.specs.Watching.{IsWatching, has_key}
 use Rattle.config_assembly.proofs.ReachLemmas.{whole_where}
 use Rattle.dep_manager.specs.Laws.{AgreeAt, with_fates}
-use Rattle.dep_manager.specs.KeptAssemblies.{AreChanges, HaveChanged, IsAssembledOf, IsKeptOf, Managed, config_if, config_so_far, least_of, source_of, sources_of}
+use Rattle.dep_manager.specs.KeptAssemblies.{AreChanges, HaveChanged, IsAssembledOf, IsKeptOf, IsRightBy, Managed, config_if, config_so_far, kept_with, least_of, source_of, sources_of}
+use Rattle.dep_manager.specs.ShownEntries.{StandAsShown}
 use Rattle.dep_manager.specs.UpdateOutcomes.{IsOutcomeBy, outcome_of}
 use Rattle.dep_manager.specs.declared.kept_assembly.Kept.{Kept}
 use Rattle.dep_manager.proofs.DecideLemmas.{at_cluster, at_route, at_target, entry_same}
@@ -55,8 +58,8 @@ module _ (r : Resources) (reached : List Key) (kept : Kept) (is : IsAssembledOf 
   lawful_if None lawful = lawful
   lawful_if (Some key) lawful = tt
 
-  pub outcome_by : IsLawfulConfig kept.config → IsOutcomeBy r kept.references (outcome_of reached kept)
-  outcome_by lawful = record {
+  pub outcome_by : (marks : Vec Bool Global) → IsLawfulConfig kept.config → IsOutcomeBy r kept.references (outcome_of reached kept marks)
+  outcome_by marks lawful = record {
     reached_are = is.reached_are;
     missing_is = least_is;
     config_is = config_by (least_of kept.awaited.keys reached) least_reached;
@@ -161,7 +164,7 @@ kept_by entries old new target references reached kept is same lawful watching =
 
 -- ---- what was kept, taken out
 
-pub kept_at : (entries : List AuthorityEntry) (old new : Managed) (now : Watched) (changed : List Key) (last : Kept) → new ≡ record { target = old.target; reached = old.reached; last = None } → old.last ≡ Some last → HaveChanged entries old now changed →
+pub kept_at : (entries : List AuthorityEntry) (old new : Managed) (now : Watched) (changed : List Key) (last : Kept) → new ≡ record { target = old.target; reached = old.reached; last = None; shown = old.shown } → old.last ≡ Some last → HaveChanged entries old now changed →
     (known : Watched) × IsKeptOf entries known new.target new.reached last × AreChanges known now changed
 kept_at entries old new now changed last rest is (known, right, changes) =
     (known, subst (λ d. IsKeptOf entries known d.target d.reached last) (sym rest) (subst (λ o. IfSome o (IsKeptOf entries known old.target old.reached)) is right), changes)
@@ -169,6 +172,36 @@ kept_at entries old new now changed last rest is (known, right, changes) =
 pub was_last : (result taken last : Option Kept) → taken ≡ last → IfSome result (λ kept. taken ≡ Some kept) → IfSome result (λ kept. last ≡ Some kept)
 was_last None taken last same is = tt
 was_last (Some kept) taken last same is = sym same ∙ is
+
+pub stood_last : (result last : Option Kept) (shown : Option Config) → IfSome result (λ kept. last ≡ Some kept) → IfSome last (λ kept. StandAsShown kept.others.items shown kept.config) →
+    IfSome result (λ kept. StandAsShown kept.others.items shown kept.config)
+stood_last None last shown is stand = tt
+stood_last (Some kept) last shown is stand = subst (λ o. IfSome o (λ k. StandAsShown k.others.items shown k.config)) is stand
+
+-- ---- what is kept, with other marks
+
+kept_again : (entries : List AuthorityEntry) (known : Watched) (target : Target) (reached : List Key) (kept : Kept) (marks : Vec Bool Global) → IsKeptOf entries known target reached kept → IsKeptOf entries known target reached (kept_with kept marks)
+kept_again entries known target reached kept marks is = record {
+  assembled = record {
+    reached_are = is.assembled.reached_are;
+    awaited_are = is.assembled.awaited_are;
+    config_is = is.assembled.config_is;
+    sources_are = is.assembled.sources_are;
+    front_waits = is.assembled.front_waits;
+  };
+  watched = is.watched;
+  lawful = is.lawful;
+}
+
+right_again : (entries : List AuthorityEntry) (known : Watched) (target : Target) (reached : List Key) (made : Kept) (last : Option Kept) → IsSomeAnd last (λ kept. kept ≡ kept_with made kept.others) → IsKeptOf entries known target reached made →
+    IfSome last (IsKeptOf entries known target reached)
+right_again entries known target reached made None is right = tt
+right_again entries known target reached made (Some kept) is right = subst (IsKeptOf entries known target reached) (sym is) (kept_again entries known target reached made kept.others right)
+
+pub right_by : (entries : List AuthorityEntry) (known : Watched) (target : Target) (reached : List Key) (made : Kept) (d : Managed) → d.target ≡ target → d.reached ≡ reached → IsSomeAnd d.last (λ kept. kept ≡ kept_with made kept.others) →
+    IsKeptOf entries known target reached made → IsRightBy entries known d
+right_by entries known target reached made d same keys is right =
+    subst (λ t. IfSome d.last (IsKeptOf entries known t d.reached)) (sym same) (subst (λ ks. IfSome d.last (IsKeptOf entries known target ks)) (sym keys) (right_again entries known target reached made d.last is right))
 
 pub none_counted : (old new n : ℕ) → new ≤ old + n → old ≤ new → n ≡ 0 → new ≡ old
 none_counted old new n most least none = omega (arith, most, least, none)

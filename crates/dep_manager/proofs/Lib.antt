@@ -5,3 +5,4 @@ pub mod NewsLemmas
 pub mod PairLemmas
 pub mod ReachSteps
 pub mod RenewLemmas
+pub mod ShownLemmas

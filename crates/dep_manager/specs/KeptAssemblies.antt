@@ -1,6 +1,8 @@
 -- What is kept from one update to the next, and when it is right.
-use Rattle.std.specs.Prelude.{◌≡◌, List, [], map, true, false, Option, None, Some, Result, Ok, Err, IfSome, is_some, option_map, unwrap_or}
+use Rattle.std.specs.Prelude.{◌≡◌, Bool, List, [], map, true, false, Option, None, Some, Result, Ok, Err, IfSome, is_some, option_map, unwrap_or}
 use Rattle.std.specs.List.{find}
+use Rattle.std.specs.declared.alloc.Global.{Global}
+use Rattle.std.specs.declared.vec.Vec.{Vec}
 use Rattle.xc_base.specs.declared.names.Kind.{Kind}
 use Rattle.xc_base.specs.declared.names.Key.{Key}
 use Rattle.xc_base.specs.declared.reason.Reason.{Reason}
@@ -40,6 +42,10 @@ abbrev pub config_if : Option Key → Config → Option Config
 config_if None config = Some config
 config_if (Some key) config = None
 
+-- the same with these marks
+abbrev pub kept_with : Kept → Vec Bool Global → Kept
+kept_with kept marks = record { references = kept.references; awaited = kept.awaited; config = kept.config; sources = kept.sources; others = marks }
+
 -- what is kept was made of what is known here
 pub record IsAssembledOf (r : Resources) (reached : List Key) (kept : Kept) : Type 0 where
   pub reached_are : reached ≡ reach r kept.references
@@ -48,11 +54,13 @@ pub record IsAssembledOf (r : Resources) (reached : List Key) (kept : Kept) : Ty
   pub sources_are : kept.sources ≡ map (λ entry. sources_of r entry.state) kept.config.clusters
   pub front_waits : front r ≡ None → IsFrontAwaited r
 
--- whom the channel calls, what the last update reached, and what it made, unless it failed
+-- whom the channel calls, what the last update reached, what it made, unless it failed, and the configuration that was handed out
+-- last, if any
 pub record Managed : Type 0 where
   pub target : Target
   pub reached : List Key
   pub last : Option Kept
+  pub shown : Option Config
 
 -- the cache watches the reached keys and no others, and what is kept was made of what it knows
 pub record IsKeptOf (entries : List AuthorityEntry) (known : Watched) (target : Target) (reached : List Key) (kept : Kept) : Type 0 where

@@ -3,3 +3,4 @@ pub mod KeptAssemblies
 pub mod Laws
 pub mod UpdateOutcomes
 pub mod RenewedConfigs
+pub mod ShownEntries

@@ -1,5 +1,5 @@
 -- A configuration once endpoints changed: what they don't touch stays.
-use Rattle.std.specs.Prelude.{List, [], ◌∷◌, Option, None, Some, Result, Ok, Err, if◌then◌else◌, option_and_then}
+use Rattle.std.specs.Prelude.{Bool, ◌||◌, List, [], ◌∷◌, map, Option, None, Some, Result, Ok, Err, if◌then◌else◌, option_and_then}
 use Rattle.std.specs.List.{list_any}
 use Rattle.xc_base.specs.declared.names.Key.{Key}
 use Rattle.xc_base.specs.declared.reason.Reason.{Reason}
@@ -41,3 +41,11 @@ renewed_entries told entries sources = paired (renewed_entry told) entries sourc
 
 abbrev pub renewed_config : Told → Config → List (List (Option Key)) → Config
 renewed_config told config sources = if list_any (list_any (is_told told)) sources then record { front = config.front; clusters = renewed_entries told config.clusters sources } else config
+
+-- a mark that is set in either list, at each place that both have
+abbrev pub joined_marks : List Bool → List Bool → List Bool
+joined_marks marks told = paired ◌||◌ marks told
+
+-- which entries may be other ones than at a time before, once those are marked of which a leaf was told
+abbrev pub renewed_marks : Told → List Bool → List (List (Option Key)) → List Bool
+renewed_marks told marks sources = if list_any (list_any (is_told told)) sources then joined_marks marks (map (list_any (is_told told)) sources) else marks

@@ -1,5 +1,7 @@
 -- What an update comes to.
-use Rattle.std.specs.Prelude.{◌≡◌, ◌↔◌, List, IfSome, IsNone, IsSome}
+use Rattle.std.specs.Prelude.{◌≡◌, ◌↔◌, Bool, List, IfSome, IsNone, IsSome}
+use Rattle.std.specs.declared.alloc.Global.{Global}
+use Rattle.std.specs.declared.vec.Vec.{Vec}
 use Rattle.xc_base.specs.declared.names.Key.{Key}
 use Rattle.xds_config.specs.Configs.{IsLawfulConfig}
 use Rattle.config_assembly.specs.Orders.{Name}
@@ -10,9 +12,9 @@ use Rattle.dep_manager.specs.declared.kept_assembly.Kept.{Kept}
 use Rattle.dep_manager.specs.declared.deps.Outcome.{Outcome}
 use Rattle.dep_manager.specs.KeptAssemblies.{config_if, least_of}
 
--- by the keys that were reached and what was made
-abbrev pub outcome_of : List Key → Kept → Outcome
-outcome_of reached kept = record { reached = reached; missing = least_of kept.awaited.keys reached; config = config_if (least_of kept.awaited.keys reached) kept.config }
+-- by the keys that were reached and what was made, with these marks
+abbrev pub outcome_of : List Key → Kept → Vec Bool Global → Outcome
+outcome_of reached kept marks = record { reached = reached; missing = least_of kept.awaited.keys reached; config = config_if (least_of kept.awaited.keys reached) kept.config; others = marks }
 
 -- by what is known, where these are the clusters to which calls refer
 pub record IsOutcomeBy (r : Resources) (references : List Name) (o : Outcome) : Type 0 where

@@ -1,8 +1,8 @@
 //! A configuration once endpoints changed: what they don't touch is the same shared value as before.
-ghost use Rattle.std.specs.Prelude.{◌≡◌, IfOk};
+ghost use Rattle.std.specs.Prelude.{◌≡◌, IfOk, map};
 ghost use Rattle.std.specs.List.{list_any};
 ghost use Rattle.dep_manager.specs.EndpointNews.{is_told};
-ghost use Rattle.dep_manager.specs.RenewedConfigs.{renewed_config, renewed_entries, renewed_entry, renewed_leaf, renewed_leaves, renewed_state};
+ghost use Rattle.dep_manager.specs.RenewedConfigs.{joined_marks, renewed_config, renewed_entries, renewed_entry, renewed_leaf, renewed_leaves, renewed_marks, renewed_state};
 
 use crate::endpoint_news::News;
 use std::alloc::Global;
@@ -100,23 +100,57 @@ fn any_told(news: &News, sources: &[Option<Key>]) -> bool
     sources.iter().any(|source| news.tells(source))
 }
 
-/// Whether any leaf of these clusters has its endpoints from a key that changed.
-fn any_of_all(news: &News, sources: &[List<Option<Key>>]) -> bool
-    ensures { result ≡ list_any (list_any (is_told news.now)) sources.now }
+/// For each of these clusters, whether any of its leaves has its endpoints from a key that changed.
+fn told_marks(
+    alloc: Global,
+    news: &News,
+    sources: &[List<Option<Key>>],
+) -> Result<Vec<bool>, Memory>
+    ensures { IfOk result (λ told. told.items ≡ map (list_any (is_told news.now)) sources.now) }
 {
-    sources.iter().any(|keys| any_told(news, keys.as_slice()))
+    let mut told = Vec::with_capacity(alloc, sources.len())?;
+    for keys in sources {
+        told.push(any_told(news, keys.as_slice()))?;
+    }
+    Ok(told)
 }
 
-/// The entry of a cluster whose leaves have their endpoints from these keys, once some changed.
+/// Whether any of these marks is set.
+fn any_marked(marks: &[bool]) -> bool
+    ensures { result ≡ list_any (λ mark. mark) marks.now }
+{
+    marks.iter().any(|mark| *mark)
+}
+
+/// The marks that stand in either list, as long as both go.
+fn joined_marks(alloc: Global, marks: &[bool], told: &[bool]) -> Result<Vec<bool>, Memory>
+    ensures { IfOk result (λ joined. joined.items ≡ joined_marks marks.now told.now) }
+{
+    let mut joined = Vec::with_capacity(alloc, marks.len())?;
+    let mut left = told;
+    for mark in marks {
+        let Some((other, rest)) = left.split_first() else {
+            return Ok(joined);
+        };
+        joined.push(*mark || *other)?;
+        left = rest;
+    }
+    Ok(joined)
+}
+
+/// The entry of a cluster whose leaves have their endpoints from these keys, once some changed, where it is known whether any of
+/// these keys did.
 fn renewed_entry(
     alloc: Global,
     news: &News,
     entry: &Shared<ClusterEntry>,
     sources: &[Option<Key>],
+    told: bool,
 ) -> Result<Shared<ClusterEntry>, Memory>
+    requires { told ≡ list_any (is_told news.now) sources.now }
     ensures { IfOk result (λ new. new ≡ renewed_entry news.now entry.now sources.now) }
 {
-    if !any_told(news, sources) {
+    if !told {
         return entry.share();
     }
     let name = entry.get().name.clone()?;
@@ -124,41 +158,73 @@ fn renewed_entry(
     Ok(Shared::new(alloc, ClusterEntry { name, state })?)
 }
 
-/// The entries of clusters whose leaves have their endpoints from these keys, once some changed.
+/// The entries of clusters whose leaves have their endpoints from these keys, once some changed, where it is known of which
+/// clusters any did.
 fn renewed_entries(
     alloc: Global,
     news: &News,
     entries: &[Shared<ClusterEntry>],
     sources: &[List<Option<Key>>],
+    told: &[bool],
 ) -> Result<List<Shared<ClusterEntry>>, Memory>
+    requires { told.now ≡ map (list_any (is_told news.now)) sources.now }
     ensures { IfOk result (λ list. list ≡ renewed_entries news.now entries.now sources.now) }
 {
-    let mut list = List::new(alloc);
+    let mut list = List::from_vec(Vec::with_capacity(alloc, entries.len())?);
     let mut left = sources;
+    let mut marks = told;
     for entry in entries {
         let Some((keys, rest)) = left.split_first() else {
             return Ok(list);
         };
-        list.push(renewed_entry(alloc, news, entry, keys.as_slice())?)?;
+        let Some((mark, later)) = marks.split_first() else {
+            return Ok(list);
+        };
+        list.push(renewed_entry(alloc, news, entry, keys.as_slice(), *mark)?)?;
         left = rest;
+        marks = later;
     }
     Ok(list)
 }
 
+/// A configuration once endpoints changed, and which of its entries may be other ones than at a time before.
+#[derive(Drop)]
+pub struct Renewed {
+    /// The configuration.
+    pub config: Shared<Config>,
+    /// A mark for each of its clusters, which is set where its entry may be another one.
+    pub others: Vec<bool>,
+}
+
 /// A configuration whose leaves have their endpoints from these keys, once some changed. Where none of its leaves has one that
-/// changed, it is the same, and so is each entry.
+/// changed, it is the same, and so is each entry. The marks tell which entries may already be other ones than at a time before;
+/// those that are renewed are marked too.
 pub fn renewed_config(
     alloc: Global,
     news: &News,
     config: Shared<Config>,
     sources: &[List<Option<Key>>],
-) -> Result<Shared<Config>, Memory>
-    ensures { IfOk result (λ new. new ≡ renewed_config news.now config sources.now) }
+    others: Vec<bool>,
+) -> Result<Renewed, Memory>
+    ensures config { IfOk result (λ new. new.config ≡ renewed_config news.now config sources.now) }
+    ensures others { IfOk result (λ new. new.others.items ≡ renewed_marks news.now others.items sources.now) }
 {
-    if !any_of_all(news, sources) {
-        return Ok(config);
+    if news.is_empty() {
+        return Ok(Renewed { config, others });
+    }
+    let told = told_marks(alloc, news, sources)?;
+    if !any_marked(&told) {
+        return Ok(Renewed { config, others });
     }
     let front = copy_front(&config.get().front)?;
-    let clusters = renewed_entries(alloc, news, config.get().clusters.as_slice(), sources)?;
-    Ok(Shared::new(alloc, Config { front, clusters })?)
+    let clusters = renewed_entries(
+        alloc,
+        news,
+        config.get().clusters.as_slice(),
+        sources,
+        &told,
+    )?;
+    let config = Shared::new(alloc, Config { front, clusters })?;
+    let others = joined_marks(alloc, &others, &told)?;
+    Ok(Renewed { config, others })
 }

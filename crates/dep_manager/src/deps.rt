@@ -1,5 +1,6 @@
 //! The dependency manager of a channel.
-ghost use Rattle.std.specs.Prelude.{◌≡◌, ◌↔◌, ◌≤◌, ◌+◌, List, [], length, true, IfOk, IfSome, IsNone, IsOk, IsSome, None, OnOk, Some, map, unwrap_or};
+ghost use Rattle.std.specs.Prelude.{◌≡◌, ◌↔◌, ◌≤◌, ◌+◌, List, [], length, true, IfOk, IfSome, IsNone, IsOk, IsSome, IsSomeAnd, None, OnOk, Some, map, unwrap_or};
+ghost use Rattle.std.specs.Option.{option_or};
 ghost use Rattle.xc_base.specs.declared.names.Kind.TheVariants.{Listener as ListenerKind};
 ghost use Rattle.std.specs.List.Sorted.{IsStrictlySortedBy};
 ghost use Rattle.xds_config.specs.Configs.{IsLawfulConfig, IsLawfulFront};
@@ -14,11 +15,12 @@ ghost use Rattle.config_assembly.specs.WholeConfigs.{config_where};
 ghost use Rattle.config_assembly.specs.DepsViews.{seen};
 ghost use Rattle.config_assembly.specs.Watching.{IsKept, IsWatching};
 ghost use Rattle.dep_manager.specs.EndpointNews.{are_endpoints};
-ghost use Rattle.dep_manager.specs.KeptAssemblies.{AreChanges, HaveChanged, IsKeptOf, IsRightBy};
+ghost use Rattle.dep_manager.specs.KeptAssemblies.{AreChanges, HaveChanged, IsKeptOf, IsRightBy, kept_with};
+ghost use Rattle.dep_manager.specs.ShownEntries.{StandAsShown, marks_if, marks_left};
 ghost use Rattle.dep_manager.specs.UpdateOutcomes.{IsOutcomeBy, outcome_of};
 ghost use Rattle.dep_manager.specs.declared.kept_assembly.Kept.{Kept as KeptValue};
 
-use crate::kept_assembly::{Assembly, Kept, assembly_of, last_to_follow, renew};
+use crate::kept_assembly::{Kept, assembly_of, last_to_follow, renew};
 use config_assembly::Sight;
 use config_assembly::ordered::copy_keys;
 use config_assembly::watching::watch_reached;
@@ -40,39 +42,51 @@ pub struct Outcome {
     pub missing: Option<Key>,
     /// The whole configuration, which is there exactly where no reached key is awaited.
     pub config: Option<Shared<Config>>,
+    /// For each of its clusters, whether its entry may be another one than the one that stood at its place in the
+    /// configuration that was handed out last before this one. It is empty where there is no configuration.
+    pub others: Vec<bool>,
 }
 
 /// The dependency manager: the target of a channel, the keys that the last update reached, which are those that are
-/// watched, and what it made, unless it failed.
+/// watched, what it made, unless it failed, and the configuration that was handed out last, if any. The marks that are
+/// kept tell which of the entries may be other ones than in that one.
 #[derive(Drop)]
 pub struct Deps {
     target: Target,
     reached: List<Key>,
     last: Option<Kept>,
+    shown: Option<Shared<Config>>,
 }
 
 impl Model for Deps {
-    ghost use Rattle.std.specs.Prelude.{◌≡◌};
+    ghost use Rattle.std.specs.Prelude.{◌≡◌, IfSome};
     ghost use Rattle.xc_base.specs.declared.names.Kind.TheVariants.{Listener as ListenerKind};
     ghost use Rattle.dep_manager.specs.KeptAssemblies.{Managed};
+    ghost use Rattle.dep_manager.specs.ShownEntries.{StandAsShown};
 
     ghost Value = { Managed };
 
-    ghost view = { λ d. record { target = d.target; reached = d.reached; last = d.last } };
+    ghost view = { λ d. record { target = d.target; reached = d.reached; last = d.last; shown = d.shown } };
 
-    ghost invariant = { λ d. d.target.key.kind ≡ ListenerKind };
+    ghost invariant = { λ d. (d.target.key.kind ≡ ListenerKind) × IfSome d.last (λ kept. StandAsShown kept.others.items d.shown kept.config) };
 }
 
-/// What an update comes to that reached these keys and made this.
-fn outcome_of(reached: List<Key>, kept: &Kept) -> Result<Outcome, Memory>
-    ensures { IfOk result (λ o. o ≡ outcome_of reached kept.now) }
+/// What an update comes to that reached these keys and made this. Where a configuration is handed out, the marks are taken out of
+/// what was made, and no cluster is marked any more.
+fn outcome_of(alloc: Global, reached: List<Key>, kept: &mut Kept) -> Result<Outcome, Memory>
+    ensures outcome { IfOk result (λ o. o ≡ outcome_of reached kept.old o.others) }
+    ensures others { IfOk result (λ o. o.others.items ≡ marks_if o.missing kept.old.others.items) }
+    ensures kept { kept.new ≡ kept_with kept.old kept.new.others }
+    ensures left { IfOk result (λ o. kept.new.others.items ≡ marks_left o.missing kept.old.others.items) }
 {
     let missing = kept.least(reached.as_slice())?;
     let config = kept.config_if(&missing)?;
+    let others = kept.take_marks(alloc, &missing)?;
     Ok(Outcome {
         reached,
         missing,
         config,
+        others,
     })
 }
 
@@ -81,31 +95,40 @@ impl Deps {
     pub fn new(alloc: Global, target: Target) -> Result<Deps, Memory>
         requires { target.key.kind ≡ ListenerKind }
         ensures ok { IsOk result }
-        ensures new { IfOk result (λ d. d ≡ record { target = target; reached = []; last = None }) }
+        ensures new { IfOk result (λ d. d ≡ record { target = target; reached = []; last = None; shown = None }) }
     {
         Ok(Deps {
             target,
             reached: List::new(alloc),
             last: None,
+            shown: None,
         })
     }
 
-    /// Keeps what an update reached and made, and answers what it comes to.
-    fn keep(&mut self, alloc: Global, made: Assembly) -> Result<Outcome, Memory>
-        ensures outcome { IfOk result (λ o. o ≡ outcome_of made.reached made.kept) }
-        ensures kept { OnOk result (self.new ≡ record { target = self.old.target; reached = made.reached; last = Some made.kept }) }
+    /// Keeps what an update made, and answers what it comes to where it reached these keys.
+    fn keep(&mut self, alloc: Global, reached: List<Key>, made: Kept) -> Result<Outcome, Memory>
+        requires { StandAsShown made.others.items self.old.shown made.config }
+        ensures outcome { IfOk result (λ o. o ≡ outcome_of reached made o.others) }
+        ensures others { IfOk result (λ o. IfSome o.config (λ config. StandAsShown o.others.items self.old.shown config)) }
+        ensures shown { IfOk result (λ o. self.new.shown ≡ option_or o.config self.old.shown) }
+        ensures held { (self.new.target ≡ self.old.target) × (self.new.reached ≡ self.old.reached) }
+        ensures kept { OnOk result (IsSomeAnd self.new.last (λ kept. kept ≡ kept_with made kept.others)) }
     {
-        self.reached = copy_keys(alloc, made.reached.as_slice())?;
-        let outcome = outcome_of(made.reached, &made.kept)?;
-        self.last = Some(made.kept);
+        let mut kept = made;
+        let outcome = outcome_of(alloc, reached, &mut kept)?;
+        if let Some(config) = &outcome.config {
+            self.shown = Some(config.share()?);
+        }
+        self.last = Some(kept);
         Ok(outcome)
     }
 
     /// Takes out what the last update made, and answers it where these keys that changed are keys of Endpoint resources and
     /// calls refer to the same clusters.
     fn take_last(&mut self, changed: &[Key], references: &List<Text>) -> Option<Kept>
-        ensures rest { self.new ≡ record { target = self.old.target; reached = self.old.reached; last = None } }
+        ensures rest { self.new ≡ record { target = self.old.target; reached = self.old.reached; last = None; shown = self.old.shown } }
         ensures kept { IfSome result (λ kept. self.old.last ≡ Some kept) }
+        ensures stands { IfSome result (λ kept. StandAsShown kept.others.items self.old.shown kept.config) }
         ensures references { IfSome result (λ kept. references.now ≡ kept.references) }
         ensures endpoints { IfSome result (λ kept. are_endpoints changed.now ≡ true) }
         ensures some { (kept : KeptValue) → self.old.last ≡ Some kept → references.now ≡ kept.references → are_endpoints changed.now ≡ true → result ≡ Some kept }
@@ -122,17 +145,20 @@ impl Deps {
         cache: &Cache,
         steps: &mut Steps<L>,
     ) -> Result<Outcome, Memory>
-        requires { are_endpoints changed.now ≡ true }
+        requires endpoints { are_endpoints changed.now ≡ true }
+        requires stands { StandAsShown last.others.items self.old.shown last.config }
         ensures outcome { IfOk result (λ o. (entries : List AuthorityValue) (known : Watched) → IsKeptOf entries known self.old.target self.old.reached last → AreChanges known cache.now changed.now → IsOutcomeBy (resources self.old.target entries cache.now) last.references o) }
         ensures watched { IfOk result (λ o. (entries : List AuthorityValue) (known : Watched) → IsKeptOf entries known self.old.target self.old.reached last → AreChanges known cache.now changed.now → IsWatching cache.now cache.now o.reached) }
         ensures kept { IfOk result (λ o. (entries : List AuthorityValue) (known : Watched) → IsKeptOf entries known self.old.target self.old.reached last → AreChanges known cache.now changed.now → IsRightBy entries cache.now self.new) }
         ensures held { IfOk result (λ o. (self.new.target ≡ self.old.target) × (self.new.reached ≡ o.reached)) }
+        ensures others { IfOk result (λ o. IfSome o.config (λ config. StandAsShown o.others.items self.old.shown config)) }
+        ensures shown { IfOk result (λ o. self.new.shown ≡ option_or o.config self.old.shown) }
         ensures cost { steps.new ≤ steps.old + length changed.now }
         ensures rises { steps.old ≤ steps.new }
     {
         let kept = renew(alloc, last, changed.as_slice(), cache, steps)?;
         let reached = copy_keys(alloc, self.reached.as_slice())?;
-        let outcome = self.keep(alloc, Assembly { reached, kept })?;
+        let outcome = self.keep(alloc, reached, kept)?;
         Ok(outcome)
     }
 
@@ -150,6 +176,8 @@ impl Deps {
         ensures watched { IfOk result (λ o. IsWatching cache.old cache.new o.reached) }
         ensures kept { IfOk result (λ o. IsRightBy boot.now.authorities cache.new self.new) }
         ensures held { IfOk result (λ o. (self.new.target ≡ self.old.target) × (self.new.reached ≡ o.reached)) }
+        ensures others { IfOk result (λ o. IfSome o.config (λ config. StandAsShown o.others.items self.old.shown config)) }
+        ensures shown { IfOk result (λ o. self.new.shown ≡ option_or o.config self.old.shown) }
     {
         let sight = Sight {
             alloc,
@@ -164,7 +192,9 @@ impl Deps {
             self.reached.as_slice(),
             made.reached.as_slice(),
         )?;
-        let outcome = self.keep(alloc, made)?;
+        let reached = copy_keys(alloc, made.reached.as_slice())?;
+        let outcome = self.keep(alloc, made.reached, made.kept)?;
+        self.reached = reached;
         Ok(outcome)
     }
 
@@ -173,8 +203,9 @@ impl Deps {
     /// watched before must have been reached by the last update, or be reached now, and each of which something else is
     /// known than then must be one of those that changed. Where these are keys of Endpoint resources and calls refer to
     /// the same clusters, each of them is looked at once and nothing else is, and what they don't touch is the same
-    /// shared value as before; else all is made from nothing. After want of memory the cache may watch some of the keys
-    /// alone.
+    /// shared value as before; else all is made from nothing. With the configuration come marks of the clusters whose
+    /// entries may be other ones than in the configuration that was handed out last: one without a mark has the entry that
+    /// stood at its place in that one. After want of memory the cache may watch some of the keys alone.
     pub fn update<L: Ledger>(
         &mut self,
         alloc: Global,
@@ -193,6 +224,8 @@ impl Deps {
         ensures lawful { IfOk result (λ o. IfSome o.config IsLawfulConfig) }
         ensures watched { IfOk result (λ o. IsWatching cache.old cache.new o.reached) }
         ensures held { IfOk result (λ o. (self.new.target ≡ self.old.target) × (self.new.reached ≡ o.reached)) }
+        ensures others { IfOk result (λ o. IfSome o.config (λ config. StandAsShown o.others.items self.old.shown config)) }
+        ensures shown { IfOk result (λ o. self.new.shown ≡ option_or o.config self.old.shown) }
         ensures kept { IfOk result (λ o. IsRightBy boot.now.authorities cache.new self.new) }
         ensures still { (last : KeptValue) → self.old.last ≡ Some last → references.now ≡ last.references → changed.now ≡ [] → steps.new ≡ steps.old }
         ensures cost { (last : KeptValue) → self.old.last ≡ Some last → references.now ≡ last.references → are_endpoints changed.now ≡ true → steps.new ≤ steps.old + length changed.now }

@@ -1,5 +1,5 @@
 //! What is told of keys that changed.
-ghost use Rattle.std.specs.Prelude.{◌≡◌, ◌≤◌, ◌+◌, [], None, Some, IfOk, OnOk, false, length, option_map, if◌then◌else◌};
+ghost use Rattle.std.specs.Prelude.{◌≡◌, ◌↔◌, ◌≤◌, ◌+◌, [], None, Some, IfOk, IsTrue, OnOk, false, length, option_map, if◌then◌else◌};
 ghost use Rattle.xc_base.specs.declared.names.Key.{Key as KeyValue};
 ghost use Rattle.xc_keys.specs.Keys.{is_key};
 ghost use Rattle.xds_config.specs.Endpoints.{IsLawfulEndpoints};
@@ -39,6 +39,13 @@ impl News {
         News {
             states: BTreeMap::new(alloc),
         }
+    }
+
+    /// Whether nothing is told.
+    pub fn is_empty(&self) -> bool
+        ensures { IsTrue result ↔ (self.now ≡ []) }
+    {
+        self.states.is_empty()
     }
 
     /// Tells the endpoints of a key.

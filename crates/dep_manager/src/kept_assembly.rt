@@ -1,11 +1,12 @@
 //! What is kept from one update to the next.
-ghost use Rattle.std.specs.Prelude.{◌≡◌, ◌≤◌, ◌+◌, List, [], length, map, true, Some, Err, IfOk, IfSome, unwrap_or};
+ghost use Rattle.std.specs.Prelude.{◌≡◌, ◌≤◌, ◌+◌, List, Option, [], length, map, replicate, true, Some, Err, IfOk, IfSome, OnOk, unwrap_or};
 ghost use Rattle.std.specs.List.{find};
 ghost use Rattle.std.specs.List.Sorted.{IsStrictlySortedBy};
 ghost use Rattle.xc_base.specs.declared.names.Kind.TheVariants.{Listener as ListenerKind};
 ghost use Rattle.xc_base.specs.declared.names.Key.{Key as KeyValue};
 ghost use Rattle.xc_base.specs.declared.reason.Reason.TheVariants.{Absent as AbsentReason};
 ghost use Rattle.xds_config.specs.Configs.{IsLawfulConfig, IsLawfulFront};
+ghost use Rattle.xds_config.specs.declared.config.Config.{Config as ConfigValue};
 ghost use Rattle.xds_bootstrap.specs.declared.bootstrap.AuthorityEntry.{AuthorityEntry as AuthorityValue};
 ghost use Rattle.xds_name.specs.declared.target.Target.{Target as TargetValue};
 ghost use Rattle.aggregate_expand.specs.Chains.{longest_chain};
@@ -16,7 +17,8 @@ ghost use Rattle.config_assembly.specs.WholeConfigs.{cluster_entry};
 ghost use Rattle.config_assembly.specs.Watching.{has_key};
 ghost use Rattle.config_assembly.specs.DepsViews.{seen, seen_key};
 ghost use Rattle.dep_manager.specs.EndpointNews.{are_endpoints};
-ghost use Rattle.dep_manager.specs.KeptAssemblies.{AreChanges, IsAssembledOf, IsKeptOf, config_if, least_of};
+ghost use Rattle.dep_manager.specs.KeptAssemblies.{AreChanges, IsAssembledOf, IsKeptOf, config_if, kept_with, least_of};
+ghost use Rattle.dep_manager.specs.ShownEntries.{StandAsShown, marks_if, marks_left};
 ghost use Rattle.dep_manager.specs.declared.kept_assembly.Kept.{Kept as KeptValue};
 
 use crate::config_renewal::renewed_config;
@@ -28,6 +30,7 @@ use config_assembly::reach::{on_chains, reached_keys, roots};
 use config_assembly::{Sight, Table};
 use std::alloc::Global;
 use std::collections::BTreeSet;
+use std::mem;
 use std::sync::ledger::Ledger;
 use xc_base::{Key, List, Memory, Reason, Same, Shared, Steps, Text};
 use xds_cache::Cache;
@@ -44,6 +47,9 @@ pub struct Kept {
     pub config: Shared<Config>,
     /// For each of its clusters, the Endpoint key of each leaf, where the leaf's cluster is known.
     pub sources: List<List<Option<Key>>>,
+    /// For each of its clusters, whether its entry may be another one than the one that stood at its place in the
+    /// configuration that was handed out last.
+    pub others: Vec<bool>,
 }
 
 /// What an update reached, and what it made.
@@ -105,7 +111,7 @@ fn config_with<L: Ledger>(
     config(sight, front, names.roots.as_slice(), &table, steps)
 }
 
-/// What is reached, awaited and configured by what the cache of this sight knows.
+/// What is reached, awaited and configured by what the cache of this sight knows. Each cluster is marked.
 pub fn assembly_of<L: Ledger>(
     sight: Sight<'_>,
     references: &[Text],
@@ -115,6 +121,7 @@ pub fn assembly_of<L: Ledger>(
     ensures assembled { IfOk result (λ made. IsAssembledOf (seen sight.entry) made.reached made.kept) }
     ensures references { IfOk result (λ made. made.kept.references ≡ references.now) }
     ensures lawful { IfOk result (λ made. IsLawfulConfig made.kept.config) }
+    ensures marked { IfOk result (λ made. made.kept.others.items ≡ replicate (length made.kept.config.clusters) true) }
 {
     let front = front(sight, steps)?;
     let roots = roots(sight, &front, references)?;
@@ -125,11 +132,13 @@ pub fn assembly_of<L: Ledger>(
     let config = config_with(sight, front, &names, steps)?;
     let sources = sources_of_all(sight, config.get().clusters.as_slice(), steps)?;
     let references = copy_names(sight.alloc, references)?;
+    let others = vec![in sight.alloc; true; config.get().clusters.len()]?;
     let kept = Kept {
         references,
         awaited,
         config,
         sources,
+        others,
     };
     Ok(Assembly { reached, kept })
 }
@@ -153,7 +162,8 @@ pub fn last_to_follow(last: Option<Kept>, changed: &[Key], references: &List<Tex
     }
 }
 
-/// What was kept, brought up to date where none but these Endpoint keys changed. Each counts one step.
+/// What was kept, brought up to date where none but these Endpoint keys changed. Each counts one step. The clusters that they
+/// touch are marked too.
 pub fn renew<L: Ledger>(
     alloc: Global,
     last: Kept,
@@ -164,6 +174,7 @@ pub fn renew<L: Ledger>(
     requires { are_endpoints changed.now ≡ true }
     ensures kept { IfOk result (λ kept. (entries : List AuthorityValue) (known : Watched) (target : TargetValue) (reached : List KeyValue) → target.key.kind ≡ ListenerKind → IsKeptOf entries known target reached last → AreChanges known cache.now changed.now → IsKeptOf entries cache.now target reached kept) }
     ensures references { IfOk result (λ kept. kept.references ≡ last.references) }
+    ensures stands { IfOk result (λ kept. (shown : Option ConfigValue) → StandAsShown last.others.items shown last.config → StandAsShown kept.others.items shown kept.config) }
     ensures cost { steps.new ≤ steps.old + length changed.now }
     ensures rises { steps.old ≤ steps.new }
 {
@@ -172,14 +183,16 @@ pub fn renew<L: Ledger>(
         mut awaited,
         config,
         sources,
+        others,
     } = last;
     let news = news_of(alloc, cache, changed, &mut awaited, steps)?;
-    let config = renewed_config(alloc, &news, config, sources.as_slice())?;
+    let renewed = renewed_config(alloc, &news, config, sources.as_slice(), others)?;
     Ok(Kept {
         references,
         awaited,
-        config,
+        config: renewed.config,
         sources,
+        others: renewed.others,
     })
 }
 
@@ -216,5 +229,18 @@ impl Kept {
             Some(_) => Ok(None),
             None => Ok(Some(self.config.share()?)),
         }
+    }
+
+    /// Takes the marks out where no key is awaited, so that the configuration is handed out. From then on no cluster is marked.
+    pub fn take_marks(&mut self, alloc: Global, missing: &Option<Key>) -> Result<Vec<bool>, Memory>
+        ensures kept { self.new ≡ kept_with self.old self.new.others }
+        ensures taken { IfOk result (λ marks. marks.items ≡ marks_if missing.now self.old.others.items) }
+        ensures left { OnOk result (self.new.others.items ≡ marks_left missing.now self.old.others.items) }
+    {
+        if missing.is_some() {
+            return Ok(Vec::new(alloc));
+        }
+        let unmarked = vec![in alloc; false; self.others.len()]?;
+        Ok(mem::replace(&mut self.others, unmarked))
     }
 }

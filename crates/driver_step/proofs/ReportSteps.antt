@@ -17,7 +17,7 @@ use Rattle.xds_history.specs.Setting.{known_as}
 use Rattle.xds_history.specs.declared.turns.Turn.{Turn}
 use Rattle.xds_history.specs.declared.turns.Turn.TheVariants.{Stays}
 use Rattle.xds_history.specs.Words.{among, same_authority, same_kind}
-use Rattle.xds_history.specs.Streams.{is_up, sent_in, stream, turn_of, turned}
+use Rattle.xds_history.specs.Streams.{is_broken, is_up, sent_in, stream, turn_of, turned}
 use Rattle.xds_history.specs.Requests.{requests}
 use Rattle.xds_history.specs.declared.page.Page.{Page}
 use Rattle.xds_history.specs.declared.page.Watched.{Watched}
@@ -27,7 +27,7 @@ use Rattle.xds_history.specs.References.{references}
 use Rattle.xds_history.specs.Pages.{came, config_after, driven, page_of, pages, present_after}
 use Rattle.xds_history.specs.HistoryLaws.{is_report}
 use Rattle.xds_history.proofs.AskLemmas.{none_sent}
-use Rattle.xds_history.proofs.WatchLemmas.{none_turned, same_marks}
+use Rattle.xds_history.proofs.WatchLemmas.{none_turned, same_marks, unbroken}
 use Rattle.book_streams.specs.StreamsKept.{place_of, state_of}
 use Rattle.book_streams.specs.StreamsLaws.{is_about}
 use Rattle.book_streams.proofs.QuietLemmas.{quiet_stands}
@@ -61,10 +61,14 @@ reports_change_no_key s past ps event reply least is settled =
 
 -- ---- streams
 
+never_about : (own broken : Bool) → broken ≡ false → (own && broken) ≡ false
+never_about true broken is = is
+never_about false broken is = refl
+
 about_none : (a : Authority) (event : DriverEvent) → IsTrue (is_report event) → is_about a event ≡ false
 about_none a (DriverEvent.Opened b) is = absurd (cc is)
 about_none a (DriverEvent.Response b payload) is = absurd (cc is)
-about_none a (DriverEvent.Bytes b how) is = absurd (cc is)
+about_none a (DriverEvent.Bytes b how) is = never_about (same_authority a b) (is_broken how) (unbroken how is)
 about_none a (DriverEvent.Lost b) is = absurd (cc is)
 about_none a (DriverEvent.Moment time) is = absurd (cc is)
 about_none a (DriverEvent.Endpoint address state) is = refl

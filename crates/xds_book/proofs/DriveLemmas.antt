@@ -1,7 +1,7 @@
 -- The steps of the driver.
 use Rattle.std.proofs.Common.{◌≡◌, ◌<◌, ◌≤◌, ℕ, ◌+◌, Bool, true, false, List, [], ◌∷◌, ◌++◌, length, Option, Some, None, refl, sym, ap, ◌∙◌, subst, append-nil, arith}
 use Rattle.std.specs.Prelude.{All, IfSome, IsTrue, option_map, option_to_list}
-use Rattle.std.proofs.lemmas.List.{map-append}
+use Rattle.std.proofs.lemmas.List.{length-map, map-append}
 use Rattle.std.proofs.lemmas.List.Elements.{All-append, All-cons, All-nil}
 use Rattle.boxcar.specs.Table.{Shelves, Where}
 use Rattle.xc_base.specs.declared.names.Kind.{Kind}
@@ -24,7 +24,7 @@ use Rattle.xds_history.specs.Right.{Right}
 use Rattle.xds_history.specs.HistoryLaws.{is_report}
 use Rattle.book_calls.specs.CallsKept.{AreCallsAt}
 use Rattle.book_calls.specs.declared.calls.Calls.{Calls}
-use Rattle.book_trees.specs.TreesKept.{AreMarked, AreTreesAt, views_after}
+use Rattle.book_trees.specs.TreesKept.{AreTreesAt}
 use Rattle.book_trees.specs.declared.reported_trees.ReportedTrees.{ReportedTrees}
 use Rattle.book_trees.proofs.DueNumberLemmas.{numbers_are_few}
 use Rattle.book_picks.specs.TurnsKept.{AreTurnsAt}
@@ -47,16 +47,18 @@ use Rattle.xds_book.specs.Publishing.{IsComplete, Renews, snapshot_in}
 -- ---- what is published
 
 complete_one : (s : Setting) (event : DriverEvent) (past : List Entry) (config : Option Config) (p : Published) → IsPublication s event past config p → IsComplete p
-complete_one s event past config p at = record { lawful = at.lawful; views = at.seen.marks_are.seen_count; marks = at.seen.marks_are.count; pickable = at.seen.pickable }
+complete_one s event past config p at = record {
+  lawful = at.lawful;
+  views = ap length at.views_are ∙ length-map p.config.clusters _;
+  marks = at.marks_are.count;
+  pickable = at.pickable;
+}
 
 pub complete : (s : Setting) (event : DriverEvent) (past : List Entry) (config : Option Config) (published : Option Published) → IfSome published (IsPublication s event past config) → IfSome published IsComplete
 complete s event past config None at = tt
 complete s event past config (Some p) at = complete_one s event past config p at
 
 -- ---- picks
-
-marks_at : (s : Setting) (event : DriverEvent) (past : List Entry) (config : Option Config) (p : Published) → IsPublication s event past config p → AreMarked p.changed.items past (pages s past) p.config (views_after event past (pages s past) p.config)
-marks_at s event past config p at = subst (AreMarked p.changed.items past (pages s past) p.config) at.seen.views_are at.seen.marks_are
 
 turns_driven : (boot : Bootstrap) (target : Target) (past : List Entry) (line : ℕ) (event : DriverEvent) (reply : DriverReply) (published : Option Published) (turns turned : Turns) (old new : ReportedTrees) (config : Option Config) → target.key.kind ≡ Kind.Listener
     → Right (setting_of boot target) (driven 0 line event reply ∷ past) → number_in published ≡ reply.snapshot
@@ -72,7 +74,7 @@ turns_driven boot target past line event reply (Some p) turns turned old new con
     let e = driven 0 line event reply in
     let now_is : config_now (pages s (e ∷ past)) ≡ Some p.config = sym config_is ∙ at.config_is in
     renews s past e turns_at (record { event = event; reply = reply; what_is = refl; snapshot_is = snapshot }) (trees_serve_all (e ∷ past) (pages s (e ∷ past)) new p.config after now_is)
-    (λ same. marks_tell_served s past e event reply old p.config p.changed.items refl at.lawful before (at.seen.new_is.stays same) now_is (marks_at s event past config p at))
+    (λ same. marks_tell_served s past e event reply p.config p.marks.items refl at.marks_are (at.names_stay same) now_is)
 
 -- ---- what is ready after the entry
 

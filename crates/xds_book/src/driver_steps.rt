@@ -101,15 +101,15 @@ fn store<R: Wait + Sync>(
         number,
         config,
         views,
-        changed,
-        is_new,
+        marks,
+        is_renamed,
     } = published;
     let snapshot = Snapshot {
         number,
         config,
         trees: views,
     };
-    turns.renew(trees, &snapshot, &changed, is_new)?;
+    turns.renew(trees, &snapshot, &marks, is_renamed)?;
     match archive.push(rt, snapshot) {
         Ok(ticket) => Ok(Some(ticket)),
         Err(_) => Err(AllocError),

@@ -1,5 +1,5 @@
 -- Keys that are watched again, and entries that bring nothing for a key.
-use Rattle.std.proofs.Common.{◌≡◌, Bool, true, false, ◌||◌, cond, Option, Some, None, List, [], ◌∷◌, map, refl, sym, ap, ap₂, ◌∙◌, subst, IsTrue, option_map, option_and_then}
+use Rattle.std.proofs.Common.{◌≡◌, Bool, true, false, not, ◌&&◌, ◌||◌, cond, Option, Some, None, List, [], ◌∷◌, map, refl, sym, ap, ap₂, ◌∙◌, subst, IsTrue, option_map, option_and_then}
 use Rattle.std.specs.List.{cons_option}
 use Rattle.std.specs.Option.{option_map_or, option_or}
 use Rattle.xc_base.specs.declared.names.Authority.{Authority}
@@ -10,14 +10,16 @@ use Rattle.xc_keys.specs.Keys.{is_key}
 use Rattle.xc_keys.proofs.KeyLemmas.{same_key, key_itself}
 use Rattle.xds_cache.specs.KeptFates.{fate_at}
 use Rattle.ads_stream.specs.declared.verdict.Verdict.{Verdict}
+use Rattle.call_journal.specs.declared.event.BytesHow.{BytesHow}
 use Rattle.call_journal.specs.declared.event.DriverEvent.{DriverEvent}
 use Rattle.call_journal.specs.declared.reply.DriverReply.{DriverReply}
 use Rattle.call_journal.specs.declared.entry.Entry.{Entry}
 use Rattle.dep_manager.specs.Laws.{AgreeAt}
 use Rattle.config_assembly.specs.Watching.{has_key}
 use Rattle.xds_history.specs.Setting.{Setting}
-use Rattle.xds_history.specs.declared.turns.Turn.TheVariants.{Stays}
-use Rattle.xds_history.specs.Streams.{turn_by}
+use Rattle.xds_history.specs.declared.turns.Turn.TheVariants.{Ends, Stays}
+use Rattle.xds_history.specs.Words.{same_authority}
+use Rattle.xds_history.specs.Streams.{is_broken, turn_by, turn_if}
 use Rattle.xds_history.specs.Responses.{answered}
 use Rattle.xds_history.specs.declared.page.Page.{Page}
 use Rattle.xds_history.specs.declared.page.Watched.{Watched}
@@ -64,12 +66,12 @@ watch_twice_of marks keys (k ∷ ks) within =
 pub watch_twice : (marks : List Watched) (keys : List Key) → watch (watch marks keys) keys ≡ watch marks keys
 watch_twice marks keys = watch_twice_of marks keys keys (λ key has. has)
 
--- ---- a report of an endpoint's state, or a sweep
+-- ---- a report
 
 pub none_answered : (s : Setting) (event : DriverEvent) (reply : DriverReply) → IsTrue (is_report event) → answered s (came event reply) ≡ None
 none_answered s (DriverEvent.Opened a) reply is = absurd (cc is)
 none_answered s (DriverEvent.Response a payload) reply is = absurd (cc is)
-none_answered s (DriverEvent.Bytes a how) reply is = absurd (cc is)
+none_answered s (DriverEvent.Bytes a how) reply is = refl
 none_answered s (DriverEvent.Lost a) reply is = absurd (cc is)
 none_answered s (DriverEvent.Moment time) reply is = absurd (cc is)
 none_answered s (DriverEvent.Endpoint address state) reply is = refl
@@ -78,16 +80,27 @@ none_answered s DriverEvent.Sweep reply is = refl
 none_timed : (past : List Entry) (ps : List Page) (now : Time) (w : Watched) (event : DriverEvent) (home : Home) → IsTrue (is_report event) → mark_timed past ps now w event home ≡ None
 none_timed past ps now w (DriverEvent.Opened a) home is = absurd (cc is)
 none_timed past ps now w (DriverEvent.Response a payload) home is = absurd (cc is)
-none_timed past ps now w (DriverEvent.Bytes a how) home is = absurd (cc is)
+none_timed past ps now w (DriverEvent.Bytes a how) home is = refl
 none_timed past ps now w (DriverEvent.Lost a) home is = absurd (cc is)
 none_timed past ps now w (DriverEvent.Moment time) home is = absurd (cc is)
 none_timed past ps now w (DriverEvent.Endpoint address state) home is = refl
 none_timed past ps now w DriverEvent.Sweep home is = refl
 
+pub unbroken : (how : BytesHow) → IsTrue (not (is_broken how)) → is_broken how ≡ false
+unbroken BytesHow.Whole is = refl
+unbroken BytesHow.Closed is = refl
+unbroken BytesHow.Compressed is = absurd (cc is)
+unbroken (BytesHow.TooLong length) is = absurd (cc is)
+unbroken BytesHow.Ended is = refl
+
+never_turned : (own broken : Bool) → broken ≡ false → turn_if (own && broken) Ends ≡ Stays
+never_turned true broken is = ap (λ b. turn_if b Ends) is
+never_turned false broken is = refl
+
 pub none_turned : (a : Authority) (event : DriverEvent) (verdict : Verdict) → IsTrue (is_report event) → turn_by a event verdict ≡ Stays
 none_turned a (DriverEvent.Opened b) verdict is = absurd (cc is)
 none_turned a (DriverEvent.Response b payload) verdict is = absurd (cc is)
-none_turned a (DriverEvent.Bytes b how) verdict is = absurd (cc is)
+none_turned a (DriverEvent.Bytes b how) verdict is = never_turned (same_authority a b) (is_broken how) (unbroken how is)
 none_turned a (DriverEvent.Lost b) verdict is = absurd (cc is)
 none_turned a (DriverEvent.Moment time) verdict is = absurd (cc is)
 none_turned a (DriverEvent.Endpoint address state) verdict is = refl

@@ -14,7 +14,7 @@ use Rattle.config_assembly.specs.ReachedResources.{Resources}
 use Rattle.config_assembly.specs.Front.{names_of_front}
 use Rattle.config_assembly.specs.WholeConfigs.{whole_config}
 use Rattle.xds_history.specs.Setting.{Setting}
-use Rattle.xds_history.specs.Streams.{sent_in}
+use Rattle.xds_history.specs.Streams.{is_broken, sent_in}
 use Rattle.xds_history.specs.declared.page.Page.{Page}
 use Rattle.xds_history.specs.Page.{config_now, latest, watched_now}
 use Rattle.xds_history.specs.References.{snapshot_at, held, pinned, names_in, references}
@@ -92,9 +92,10 @@ PublishedHasHeld = (s : Setting) (later : List Entry) (e : Entry) (past : List E
 
 -- ---- what changes nothing
 
--- whether an event is a report of an endpoint's state or a sweep
+-- whether an event is a report of an endpoint's state or on bytes that break no stream, or a sweep
 abbrev pub is_report : DriverEvent → Bool
 is_report (DriverEvent.Endpoint address state) = true
+is_report (DriverEvent.Bytes a how) = not (is_broken how)
 is_report DriverEvent.Sweep = true
 is_report event = false
 
@@ -119,7 +120,7 @@ pub record ChangesNothing (s : Setting) (e : Entry) (past : List Entry) (before 
   pub awaited : awaited_in e.what ≡ awaited_in before.what
   pub sent : sent_in e.what ≡ []
 
--- A report of an endpoint's state or a sweep, where only calls' entries stand between the driver's entry before and it, and
+-- A report of an endpoint's state or on bytes that break no stream, or a sweep, where only calls' entries stand between the driver's entry before and it, and
 -- calls refer to the same clusters as they did there, changes nothing.
 abbrev pub ReportsChangeNothing : Type 0
 ReportsChangeNothing = (s : Setting) (later : List Entry) (e : Entry) (between : List Entry) (before : Entry) (earlier : List Entry) → Right s (later ++ e ∷ (between ++ before ∷ earlier)) →

@@ -1,6 +1,6 @@
 -- Verdicts on responses, what answered ones deliver, versions and nonces (Envoy's xDS protocol, "ACK and NACK"; that the
 -- valid resources of a refused response are accepted one by one is this project's own).
-use Rattle.std.specs.Prelude.{List, [], ◌∷◌, ◌++◌, map, Bool, false, ◌&&◌, if◌then◌else◌, Option, Some, None, Result, Ok, Err, is_some, is_ok, unwrap_or, option_map, option_and_then}
+use Rattle.std.specs.Prelude.{List, [], ◌∷◌, ◌++◌, map, Bool, false, ◌&&◌, if◌then◌else◌, Option, Some, None, Result, is_some, is_ok, unwrap_or, option_map, option_and_then}
 use Rattle.std.specs.List.{list_all, find, filter_map}
 use Rattle.std.specs.Option.{option_map_or}
 use Rattle.std.specs.Str.{bytes_eq}

@@ -1,6 +1,13 @@
 use Rattle.std.proofs.Common.{[]}
 use Rattle.cluster_tree.proofs.ReportLemmas.{none_stand}
+use Rattle.balancer_tests.proofs.OneMarked.{one_marked}
 use Rattle.balancer_tests.proofs.tree_tests.trees_take_a_configuration_and_reports.Goals as goal
 
 pub update-requires-clause-changes : goal.update-requires-clause-changes
 update-requires-clause-changes g c = none_stand [] c.insert.new.self.entries c.new-trees.result c.new-trees.ensures
+
+pub update-requires-clause-others : goal.update-requires-clause-others
+update-requires-clause-others g c = one_marked c.new-trees.result.clusters c.in_ok-config.config.clusters c.in_ok-config.ensures.one
+
+pub update-requires-2-clause-others : goal.update-requires-2-clause-others
+update-requires-2-clause-others g c = one_marked c.update_states.new.self.clusters c.in_ok-config.config.clusters c.in_ok-config.ensures.one

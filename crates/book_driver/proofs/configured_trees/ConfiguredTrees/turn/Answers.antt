@@ -1,15 +1,23 @@
-use Rattle.std.proofs.Common.{◌∙◌}
+use Rattle.std.proofs.Common.{true, ◌∙◌, sym, ap}
+use Rattle.std.specs.Prelude.{Some}
+use Rattle.xds_config.specs.declared.config.Config.{Config}
 use Rattle.xds_history.specs.Pages.{pages}
 use Rattle.xds_history.specs.Page.{config_now}
+use Rattle.book_trees.specs.TreesKept.{cluster_names}
+use Rattle.book_trees.proofs.MarkedLemmas.{marks_tell_change}
 use Rattle.book_driver.proofs.PublishedLemmas.{new_mark}
 use Rattle.book_driver.proofs.configured_trees.ConfiguredTrees.turn.Goals as goal
 
 pub returns-clause-seen : goal.returns-clause-seen
 returns-clause-seen c s past with other = record {
   views_are = c.in_ok-seen.ensures.views past (pages s past) with.trees_are;
-  marks_are = c.in_ok-seen.ensures.changed past (pages s past) with.trees_are;
   pickable = c.in_ok-seen.ensures.pickable;
-  new_is = new_mark (config_now (pages s past)) c.args.config (λ e. other (with.config_is ∙ e));
+  differs_is =
+      let marked = c.in_ok-seen.ensures.changed past (pages s past) with.trees_are in
+      marks_tell_change past (pages s past) c.args.config c.in_ok-seen.field-0.seen.views c.in_ok-seen.field-0.seen.changed.items true c.requires.lawful marked
+      (new_mark (config_now (pages s past)) c.args.config (λ e. other (with.config_is ∙ e)));
+  marks_are = c.in_ok-seen.ensures.still past (pages s past) with.trees_are;
+  names_stay = λ same. ap cluster_names (sym with.config_is) ∙ c.is_renamed-is_renamed.ensures same ∙ ap (λ (x : Config). cluster_names (Some x)) c.get.ensures;
 }
 
 pub returns-clause-kept : goal.returns-clause-kept

@@ -10,8 +10,8 @@ returns-in_ok-renewal-in-Repeats-clause-step g c s past at timely =
     subst (λ quiet. IsRepeat quiet c.args.references c.args.self.now.last c.in-Repeats.last) c.is_report.ensures
     (subst (λ last. IsRepeat c.is_report.result c.args.references last c.in-Repeats.last) c.take.ensures.value c.in-Repeats.ensures) in
     subst (λ r. IsAnsweredAt s past c.args.event.now c.args.prepared r c.repeat.new.self) (sym c.in_ok-renewal-in-Repeats.ensures.answer)
-    (subst (λ v. IsAnsweredAt s past c.args.event.now c.args.prepared (quiet_answer c.in-Repeats.last.missing) v) (sym c.in_ok-renewal-in-Repeats.ensures.last)
-    (quiet_answer_is s past c.args.event.now c.args.prepared c.args.references c.args.self.now c.in-Repeats.last at timely.references_are by))
+    (subst (λ v. IsAnsweredAt s past c.args.event.now c.args.prepared (quiet_answer c.in-Repeats.last.missing c.in_ok-renewal-in-Repeats.renewal.others) v) (sym c.in_ok-renewal-in-Repeats.ensures.last)
+    (quiet_answer_is s past c.args.event.now c.args.prepared c.args.references c.args.self.now c.in-Repeats.last c.in_ok-renewal-in-Repeats.renewal.others at timely.references_are by))
 
 pub returns-in_ok-renewal-in-Renews-clause-step : goal.returns-in_ok-renewal-in-Renews-clause-step
 returns-in_ok-renewal-in-Renews-clause-step g c s past at timely =

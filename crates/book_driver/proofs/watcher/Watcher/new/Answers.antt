@@ -4,11 +4,14 @@ use Rattle.xds_history.specs.Setting.{setting_of}
 use Rattle.book_driver.proofs.WatcherLemmas.{first_kept}
 use Rattle.book_driver.proofs.watcher.Watcher.new.Goals as goal
 
-pub returns : goal.returns
-returns c = record {
+pub returns-clause-at : goal.returns-clause-at
+returns-clause-at c = record {
   setting_is = ap (λ d. setting_of c.args.boot d.target) (sym c.in_ok-deps.ensures.new);
   streams_are = c.in_ok-streams.ensures (setting_of c.args.boot c.args.target) refl (sym c.len.ensures);
   fates_are = first_kept (record { cache = c.new-3.result; timers = c.new-4.result; reached = c.new-5.result }) c.new-3.ensures c.new-4.ensures c.new-5.ensures;
   keys_are = ap (λ d. d.reached) c.in_ok-deps.ensures.new ∙ sym c.new-5.ensures;
   right = subst (IsRightBy c.args.boot.authorities c.new-3.result) (sym c.in_ok-deps.ensures.new) tt;
 }
+
+pub returns-clause-shown : goal.returns-clause-shown
+returns-clause-shown c = ap (λ d. d.shown) c.in_ok-deps.ensures.new

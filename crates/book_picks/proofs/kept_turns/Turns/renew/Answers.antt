@@ -5,4 +5,4 @@ use Rattle.book_picks.proofs.kept_turns.Turns.renew.Goals as goal
 pub returns : goal.returns
 returns c s past e are published serves marked =
     renewed (pages s past) (page_of s e e.what past (pages s past)) c.args.snapshot.now c.args.trees.now c.args.marks.now c.args.self.now c.renew_rows.new.self are
-    (page_of_snapshot s past e c.args.snapshot.now published) serves (marked c.if-is_new.false) c.in_ok-renew_rows.ensures
+    (page_of_snapshot s past e c.args.snapshot.now published) serves (marked c.if-is_renamed.false) c.in_ok-renew_rows.ensures

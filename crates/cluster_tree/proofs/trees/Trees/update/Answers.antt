@@ -11,10 +11,10 @@ pub clusters_after-requires-clause-others : goal.clusters_after-requires-clause-
 clusters_after-requires-clause-others c =
     let asked : ChangesAt c.args.changed.now c.args.reports.now.entries (record { now = c.self.inside.time; clusters = c.self.inside.clusters.items }) =
     subst (λ (f : Forest). ChangesAt c.args.changed.now c.args.reports.now.entries f) (sym c.self.view_is) c.requires.changes in
-    let long : length c.in_ok-marks.marks.items ≡ length c.self.inside.clusters.items = grind (arith, common_steps) in
+    let long : length c.in_ok-readers.readers.items ≡ length c.self.inside.clusters.items = grind (arith, common_steps) in
     subst (λ (ms : List Bool). OthersStay c.args.self.now.now c.args.now c.args.reports.now.entries ms c.args.self.now.clusters) (sym c.deref.ensures.value)
-    (subst (λ (f : Forest). OthersStay f.now c.args.now c.args.reports.now.entries c.in_ok-marks.marks.items f.clusters) c.self.view_is
-    (others_stay c.self.inside.users c.args.changed.now c.in_ok-marks.marks.items c.self.inside.time c.args.now asked.0 c.args.reports.now.entries c.self.inside.clusters.items asked.1.0 c.self.invariant c.in_ok-marks.ensures.marked long asked.1.1 asked.2))
+    (subst (λ (f : Forest). OthersStay f.now c.args.now c.args.reports.now.entries c.in_ok-readers.readers.items f.clusters) c.self.view_is
+    (others_stay c.self.inside.users c.args.changed.now c.in_ok-readers.readers.items c.self.inside.time c.args.now asked.0 c.args.reports.now.entries c.self.inside.clusters.items asked.1.0 c.self.invariant c.in_ok-readers.ensures.marked long asked.1.1 asked.2))
 
 pub invariant_of-self-2 : goal.invariant_of-self-2
 invariant_of-self-2 c =

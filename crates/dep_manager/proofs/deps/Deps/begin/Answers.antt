@@ -1,10 +1,11 @@
 use Rattle.std.proofs.Common.{◌≡◌, sym, ap, ◌∙◌, subst}
+use Rattle.std.specs.Prelude.{IsSomeAnd}
 use Rattle.config_assembly.specs.Reach.{reach}
 use Rattle.config_assembly.specs.ReachedResources.{Resources, resources}
 use Rattle.config_assembly.specs.Watching.{IsKept, IsWatching}
-use Rattle.dep_manager.specs.KeptAssemblies.{IsAssembledOf, IsRightBy}
+use Rattle.dep_manager.specs.KeptAssemblies.{IsAssembledOf, kept_with}
 use Rattle.dep_manager.specs.UpdateOutcomes.{IsOutcomeBy, outcome_of}
-use Rattle.dep_manager.proofs.KeptLemmas.{kept_by, outcome_by}
+use Rattle.dep_manager.proofs.KeptLemmas.{kept_by, outcome_by, right_by}
 use Rattle.dep_manager.proofs.deps.Deps.begin.Goals as goal
 
 pub watch_reached-requires : goal.watch_reached-requires
@@ -20,7 +21,7 @@ returns-clause-outcome g c =
     let r : Resources = resources c.args.self.now.target c.args.boot.now.authorities c.args.cache.now in
     let is : IsAssembledOf r c.in_ok-made.made.reached c.in_ok-made.made.kept = subst (λ d. IsAssembledOf (resources d.target c.args.boot.now.authorities c.args.cache.now) c.in_ok-made.made.reached c.in_ok-made.made.kept) c.self.view_is c.in_ok-made.ensures.assembled in
     subst (IsOutcomeBy r c.args.references.now) (sym c.in_ok-outcome.ensures.outcome)
-    (subst (λ names. IsOutcomeBy r names (outcome_of c.in_ok-made.made.reached c.in_ok-made.made.kept)) (c.in_ok-made.ensures.references ∙ c.as_slice.ensures) (outcome_by r c.in_ok-made.made.reached c.in_ok-made.made.kept is c.in_ok-made.ensures.lawful))
+    (subst (λ names. IsOutcomeBy r names (outcome_of c.in_ok-made.made.reached c.in_ok-made.made.kept c.in_ok-outcome.outcome.others)) (c.in_ok-made.ensures.references ∙ c.as_slice.ensures) (outcome_by r c.in_ok-made.made.reached c.in_ok-made.made.kept is c.in_ok-outcome.outcome.others c.in_ok-made.ensures.lawful))
 
 pub returns-clause-watched : goal.returns-clause-watched
 returns-clause-watched g c =
@@ -30,9 +31,9 @@ pub returns-clause-kept : goal.returns-clause-kept
 returns-clause-kept g c =
     let r : Resources = resources c.args.self.now.target c.args.boot.now.authorities c.args.cache.now in
     let is : IsAssembledOf r c.in_ok-made.made.reached c.in_ok-made.made.kept = subst (λ d. IsAssembledOf (resources d.target c.args.boot.now.authorities c.args.cache.now) c.in_ok-made.made.reached c.in_ok-made.made.kept) c.self.view_is c.in_ok-made.ensures.assembled in
-    subst (IsRightBy c.args.boot.now.authorities c.watch_reached.new.cache) (sym c.in_ok-outcome.ensures.kept)
+    right_by c.args.boot.now.authorities c.watch_reached.new.cache c.args.self.now.target c.in_ok-made.made.reached c.in_ok-made.made.kept
+    (record { target = c.self-2.inside.target; reached = c.in_ok-reached.reached; last = c.self-2.inside.last; shown = c.self-2.inside.shown })
+    (ap (λ d. d.target) c.self-2.view_is ∙ c.keep.ensures.held.0) (c.in_ok-reached.ensures ∙ c.as_slice-4.ensures)
+    (subst (λ d. IsSomeAnd d.last (λ kept. kept ≡ kept_with c.in_ok-made.made.kept kept.others)) (sym c.self-2.view_is) c.in_ok-outcome.ensures.kept)
     (kept_by c.args.boot.now.authorities c.args.cache.now c.watch_reached.new.cache c.args.self.now.target c.args.references.now c.in_ok-made.made.reached c.in_ok-made.made.kept is (c.in_ok-made.ensures.references ∙ c.as_slice.ensures) c.in_ok-made.ensures.lawful
     (subst (IsWatching c.args.cache.now c.watch_reached.new.cache) c.as_slice-3.ensures c.in_ok-watch_reached.ensures))
-
-pub returns-clause-held : goal.returns-clause-held
-returns-clause-held g c = (ap (λ d. d.target) c.in_ok-outcome.ensures.kept, ap (λ d. d.reached) c.in_ok-outcome.ensures.kept ∙ sym (ap (λ o. o.reached) c.in_ok-outcome.ensures.outcome))

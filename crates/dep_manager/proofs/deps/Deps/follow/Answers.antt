@@ -3,27 +3,30 @@ use Rattle.xc_base.specs.declared.names.Kind.{Kind}
 use Rattle.config_assembly.specs.ReachedResources.{Resources, resources}
 use Rattle.config_assembly.specs.Watching.{IsWatching}
 use Rattle.dep_manager.specs.EndpointNews.{are_endpoints}
-use Rattle.dep_manager.specs.KeptAssemblies.{AreChanges, IsKeptOf, IsRightBy}
+use Rattle.dep_manager.specs.KeptAssemblies.{AreChanges, IsKeptOf}
 use Rattle.dep_manager.specs.UpdateOutcomes.{IsOutcomeBy, outcome_of}
-use Rattle.dep_manager.proofs.KeptLemmas.{outcome_by, watching_still}
+use Rattle.dep_manager.proofs.KeptLemmas.{outcome_by, right_by, watching_still}
 use Rattle.dep_manager.proofs.deps.Deps.follow.Goals as goal
 
 pub renew-requires : goal.renew-requires
-renew-requires g c = ap are_endpoints c.as_slice.ensures ∙ c.requires
+renew-requires g c = ap are_endpoints c.as_slice.ensures ∙ c.requires.endpoints
+
+pub keep-requires : goal.keep-requires
+keep-requires g c = c.in_ok-kept.ensures.stands c.args.self.now.shown c.requires.stands
 
 pub returns-clause-outcome : goal.returns-clause-outcome
 returns-clause-outcome g c entries known is changes =
     let r : Resources = resources c.args.self.now.target entries c.args.cache.now in
-    let listener : c.args.self.now.target.key.kind ≡ Kind.Listener = subst (λ d. d.target.key.kind ≡ Kind.Listener) c.self.view_is c.self.invariant in
+    let listener : c.args.self.now.target.key.kind ≡ Kind.Listener = subst (λ d. d.target.key.kind ≡ Kind.Listener) c.self.view_is c.self.invariant.0 in
     let now : IsKeptOf entries c.args.cache.now c.args.self.now.target c.args.self.now.reached c.in_ok-kept.kept =
     c.in_ok-kept.ensures.kept entries known c.args.self.now.target c.args.self.now.reached listener is (subst (AreChanges known c.args.cache.now) (sym c.as_slice.ensures) changes) in
     let keys : c.in_ok-reached.reached ≡ c.args.self.now.reached = c.in_ok-reached.ensures ∙ c.as_slice-2.ensures ∙ ap (λ d. d.reached) c.self.view_is in
-    subst (IsOutcomeBy r c.args.last.references) (sym (c.in_ok-outcome.ensures.outcome ∙ ap (λ ks. outcome_of ks c.in_ok-kept.kept) keys))
-    (subst (λ names. IsOutcomeBy r names (outcome_of c.args.self.now.reached c.in_ok-kept.kept)) c.in_ok-kept.ensures.references (outcome_by r c.args.self.now.reached c.in_ok-kept.kept now.assembled now.lawful))
+    subst (IsOutcomeBy r c.args.last.references) (sym (c.in_ok-outcome.ensures.outcome ∙ ap (λ ks. outcome_of ks c.in_ok-kept.kept c.in_ok-outcome.outcome.others) keys))
+    (subst (λ names. IsOutcomeBy r names (outcome_of c.args.self.now.reached c.in_ok-kept.kept c.in_ok-outcome.outcome.others)) c.in_ok-kept.ensures.references (outcome_by r c.args.self.now.reached c.in_ok-kept.kept now.assembled c.in_ok-outcome.outcome.others now.lawful))
 
 pub returns-clause-watched : goal.returns-clause-watched
 returns-clause-watched g c entries known is changes =
-    let listener : c.args.self.now.target.key.kind ≡ Kind.Listener = subst (λ d. d.target.key.kind ≡ Kind.Listener) c.self.view_is c.self.invariant in
+    let listener : c.args.self.now.target.key.kind ≡ Kind.Listener = subst (λ d. d.target.key.kind ≡ Kind.Listener) c.self.view_is c.self.invariant.0 in
     let now : IsKeptOf entries c.args.cache.now c.args.self.now.target c.args.self.now.reached c.in_ok-kept.kept =
     c.in_ok-kept.ensures.kept entries known c.args.self.now.target c.args.self.now.reached listener is (subst (AreChanges known c.args.cache.now) (sym c.as_slice.ensures) changes) in
     let keys : c.in_ok-reached.reached ≡ c.args.self.now.reached = c.in_ok-reached.ensures ∙ c.as_slice-2.ensures ∙ ap (λ d. d.reached) c.self.view_is in
@@ -31,11 +34,13 @@ returns-clause-watched g c entries known is changes =
 
 pub returns-clause-kept : goal.returns-clause-kept
 returns-clause-kept g c entries known is changes =
-    let listener : c.args.self.now.target.key.kind ≡ Kind.Listener = subst (λ d. d.target.key.kind ≡ Kind.Listener) c.self.view_is c.self.invariant in
+    let listener : c.args.self.now.target.key.kind ≡ Kind.Listener = subst (λ d. d.target.key.kind ≡ Kind.Listener) c.self.view_is c.self.invariant.0 in
     let now : IsKeptOf entries c.args.cache.now c.args.self.now.target c.args.self.now.reached c.in_ok-kept.kept =
     c.in_ok-kept.ensures.kept entries known c.args.self.now.target c.args.self.now.reached listener is (subst (AreChanges known c.args.cache.now) (sym c.as_slice.ensures) changes) in
-    let keys : c.in_ok-reached.reached ≡ c.args.self.now.reached = c.in_ok-reached.ensures ∙ c.as_slice-2.ensures ∙ ap (λ d. d.reached) c.self.view_is in
-    subst (IsRightBy entries c.args.cache.now) (sym c.in_ok-outcome.ensures.kept) (subst (λ ks. IsKeptOf entries c.args.cache.now c.args.self.now.target ks c.in_ok-kept.kept) (sym keys) now)
+    right_by entries c.args.cache.now c.args.self.now.target c.args.self.now.reached c.in_ok-kept.kept c.keep.new.self
+    c.keep.ensures.held.0 c.keep.ensures.held.1 c.in_ok-outcome.ensures.kept now
 
 pub returns-clause-held : goal.returns-clause-held
-returns-clause-held g c = (ap (λ d. d.target) c.in_ok-outcome.ensures.kept, ap (λ d. d.reached) c.in_ok-outcome.ensures.kept ∙ sym (ap (λ o. o.reached) c.in_ok-outcome.ensures.outcome))
+returns-clause-held g c =
+    let keys : c.in_ok-reached.reached ≡ c.args.self.now.reached = c.in_ok-reached.ensures ∙ c.as_slice-2.ensures ∙ ap (λ d. d.reached) c.self.view_is in
+    (c.keep.ensures.held.0, c.keep.ensures.held.1 ∙ sym keys ∙ sym (ap (λ o. o.reached) c.in_ok-outcome.ensures.outcome))

@@ -1,10 +1,23 @@
-use Rattle.std.proofs.Common.{List, Some, ap, ap₂, ◌∙◌}
-use Rattle.xc_base.specs.declared.names.Key.{Key}
-use Rattle.xds_name.specs.declared.target.Target.{Target}
-use Rattle.dep_manager.specs.KeptAssemblies.{Managed}
+use Rattle.std.proofs.Common.{◌≡◌, rules, sym, subst}
+use Rattle.std.specs.Option.{option_or}
+use Rattle.xc_base.specs.declared.names.Kind.{Kind}
+use Rattle.dep_manager.specs.ShownEntries.{StandAsShown}
+use Rattle.dep_manager.proofs.ShownLemmas.{stand_kept}
 use Rattle.dep_manager.proofs.deps.Deps.keep.Goals as goal
+use Rattle.dep_manager.proofs.deps.Deps.keep.Goals.{in-Some+in_ok-share+in-Some-1, in-Some+in_ok-share+in-None-1, in_default}
 
-pub returns-clause-kept : goal.returns-clause-kept
-returns-clause-kept c =
-    let with : Target → List Key → Managed = λ target reached. record { target = target; reached = reached; last = Some c.args.made.kept } in
-    ap₂ with (ap (λ d. d.target) c.self.view_is) (c.in_ok-self-inside.ensures ∙ c.as_slice.ensures)
+pub invariant_of-self : goal.invariant_of-self
+invariant_of-self c =
+    let stand : StandAsShown c.outcome_of.new.kept.others.items (option_or c.in_ok-outcome.outcome.config c.args.self.now.shown) c.outcome_of.new.kept.config =
+    stand_kept c.args.reached c.args.made c.outcome_of.new.kept c.in_ok-outcome.outcome c.args.self.now.shown c.in_ok-outcome.ensures.outcome c.in_ok-outcome.ensures.kept c.in_ok-outcome.ensures.left c.requires in
+    elim c.match-outcome.branch [
+      | in-Some+in_ok-share+in-Some-1 w ↦ (let shown : c.match-outcome.self-inside.shown ≡ option_or c.in_ok-outcome.outcome.config c.args.self.now.shown = search rules in
+          let kind : c.match-outcome.self-inside.target.key.kind ≡ Kind.Listener = search rules in
+          (kind, subst (λ was. StandAsShown c.outcome_of.new.kept.others.items was c.outcome_of.new.kept.config) (sym shown) stand))
+      | in-Some+in_ok-share+in-None-1 w ↦ (let shown : c.match-outcome.self-inside.shown ≡ option_or c.in_ok-outcome.outcome.config c.args.self.now.shown = search rules in
+          let kind : c.match-outcome.self-inside.target.key.kind ≡ Kind.Listener = search rules in
+          (kind, subst (λ was. StandAsShown c.outcome_of.new.kept.others.items was c.outcome_of.new.kept.config) (sym shown) stand))
+      | in_default w ↦ (let shown : c.match-outcome.self-inside.shown ≡ option_or c.in_ok-outcome.outcome.config c.args.self.now.shown = search rules in
+          let kind : c.match-outcome.self-inside.target.key.kind ≡ Kind.Listener = search rules in
+          (kind, subst (λ was. StandAsShown c.outcome_of.new.kept.others.items was c.outcome_of.new.kept.config) (sym shown) stand))
+    ]

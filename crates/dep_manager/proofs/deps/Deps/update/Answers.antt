@@ -1,8 +1,11 @@
 use Rattle.std.proofs.Common.{length, sym, ap, ◌∙◌, subst}
+use Rattle.std.specs.Prelude.{IfSome}
+use Rattle.std.specs.Option.{option_or}
 use Rattle.config_assembly.specs.Reach.{reach}
 use Rattle.config_assembly.specs.ReachedResources.{resources}
 use Rattle.config_assembly.specs.Watching.{IsKept}
 use Rattle.dep_manager.specs.EndpointNews.{are_endpoints}
+use Rattle.dep_manager.specs.ShownEntries.{StandAsShown}
 use Rattle.dep_manager.specs.UpdateOutcomes.{IsOutcomeBy}
 use Rattle.dep_manager.proofs.KeptLemmas.{kept_at, none_counted}
 use Rattle.dep_manager.proofs.deps.Deps.update.Goals as goal
@@ -11,8 +14,11 @@ pub begin-requires : goal.begin-requires
 begin-requires g c =
     subst (λ d. IsKept c.args.cache.now d.reached (reach (resources d.target c.args.boot.now.authorities c.args.cache.now) c.args.references.now)) (sym c.take_last.ensures.rest) c.requires.watched
 
-pub follow-requires : goal.follow-requires
-follow-requires g c = ap are_endpoints (sym c.as_slice.ensures) ∙ c.in-Some.ensures.endpoints
+pub follow-requires-clause-endpoints : goal.follow-requires-clause-endpoints
+follow-requires-clause-endpoints g c = ap are_endpoints (sym c.as_slice.ensures) ∙ c.in-Some.ensures.endpoints
+
+pub follow-requires-clause-stands : goal.follow-requires-clause-stands
+follow-requires-clause-stands g c = subst (λ d. StandAsShown c.in-Some.last.others.items d.shown c.in-Some.last.config) (sym c.take_last.ensures.rest) c.in-Some.ensures.stands
 
 pub returns-in_ok-outcome-in-Some-clause-reached : goal.returns-in_ok-outcome-in-Some-clause-reached
 returns-in_ok-outcome-in-Some-clause-reached g c =
@@ -108,3 +114,17 @@ returns-in_err-outcome-in-Some-clause-still g c last kept same none = none_count
 
 pub returns-in_err-outcome-in-Some-clause-cost : goal.returns-in_err-outcome-in-Some-clause-cost
 returns-in_err-outcome-in-Some-clause-cost g c last kept same endpoints = c.follow.ensures.cost
+
+pub returns-in_ok-outcome-in-Some-clause-others : goal.returns-in_ok-outcome-in-Some-clause-others
+returns-in_ok-outcome-in-Some-clause-others g c =
+    subst (λ d. IfSome c.in_ok-outcome-in-Some.outcome.config (λ config. StandAsShown c.in_ok-outcome-in-Some.outcome.others.items d.shown config)) c.take_last.ensures.rest c.in_ok-outcome-in-Some.ensures.others
+
+pub returns-in_ok-outcome-in-Some-clause-shown : goal.returns-in_ok-outcome-in-Some-clause-shown
+returns-in_ok-outcome-in-Some-clause-shown g c = c.in_ok-outcome-in-Some.ensures.shown ∙ ap (λ d. option_or c.in_ok-outcome-in-Some.outcome.config d.shown) c.take_last.ensures.rest
+
+pub returns-in_ok-outcome-in-None-clause-others : goal.returns-in_ok-outcome-in-None-clause-others
+returns-in_ok-outcome-in-None-clause-others g c =
+    subst (λ d. IfSome c.in_ok-outcome-in-None.outcome.config (λ config. StandAsShown c.in_ok-outcome-in-None.outcome.others.items d.shown config)) c.take_last.ensures.rest c.in_ok-outcome-in-None.ensures.others
+
+pub returns-in_ok-outcome-in-None-clause-shown : goal.returns-in_ok-outcome-in-None-clause-shown
+returns-in_ok-outcome-in-None-clause-shown g c = c.in_ok-outcome-in-None.ensures.shown ∙ ap (λ d. option_or c.in_ok-outcome-in-None.outcome.config d.shown) c.take_last.ensures.rest
