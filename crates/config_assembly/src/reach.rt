@@ -8,8 +8,8 @@ ghost use Rattle.aggregate_expand.specs.Chains.{longest_chain};
 ghost use Rattle.xds_cache.specs.KeptFates.{fate_of, shown};
 ghost use Rattle.config_assembly.specs.Orders.{name_cmp, put_in, sorted};
 ghost use Rattle.config_assembly.specs.Front.{named_routes, names_of};
-ghost use Rattle.config_assembly.specs.Reach.{aggregates, children_among, children_of, endpoint_name, endpoint_names, keys_with, missing, on_chains};
-ghost use Rattle.config_assembly.specs.DepsViews.{seen, seen_key, seen_name, seen_names};
+ghost use Rattle.config_assembly.specs.Reach.{aggregates, children_among, children_of, endpoint_name, endpoint_names, keys_with, on_chains};
+ghost use Rattle.config_assembly.specs.DepsViews.{seen, seen_name, seen_names};
 
 use crate::front::put_front;
 use crate::ordered::{in_order, keys_in_order, put_key, put_names};
@@ -18,7 +18,7 @@ use aggregate_expand::LONGEST_CHAIN;
 use std::collections::BTreeSet;
 use std::sync::ledger::Ledger;
 use xc_base::{Key, Kind, List, Memory, Reason, Steps, Text};
-use xds_cache::{Cache, Fate};
+use xds_cache::Fate;
 use xds_config::{Front, RoutesFrom, Shape, Value};
 
 /// The children of an aggregate that has a value.
@@ -187,20 +187,4 @@ pub fn reached_keys<L: Ledger>(
     put_clusters(&mut keys, sight, clusters)?;
     put_endpoints(&mut keys, sight, clusters, steps)?;
     keys_in_order(sight.alloc, keys)
-}
-
-/// The least of these keys that is awaited.
-pub fn first_awaited<'a, L: Ledger>(
-    cache: &Cache,
-    keys: &'a [Key],
-    steps: &mut Steps<L>,
-) -> Option<&'a Key>
-    ensures { seen_key result ≡ missing (fate_of cache.now) keys.now }
-{
-    for key in keys {
-        if matches!(cache.get(key, steps), Fate::Wanted) {
-            return Some(key);
-        }
-    }
-    None
 }

@@ -49,13 +49,6 @@ impl<T> List<T> {
     }
 
     /// Its members, to read.
-    pub fn as_vec(&self) -> &Vec<T>
-        ensures { result.now.items ≡ self.now }
-    {
-        &self.items
-    }
-
-    /// Its members, to read.
     pub fn as_slice(&self) -> &[T]
         ensures { result.now ≡ self.now }
     {
