@@ -21,8 +21,8 @@ use Rattle.cluster_tree.specs.declared.cluster_trees.Standing.{Standing}
 use Rattle.tree_steps.specs.declared.tree_view.TreeView.{TreeView}
 use Rattle.tree_steps.specs.Reports.{Reports, state_in}
 use Rattle.tree_steps.specs.TreeSteps.{TreeFacts, followed, stayed, state_of, has_kind, trees_after}
-use Rattle.tree_steps.specs.Quiet.{is_quiet}
-use Rattle.cluster_tree.specs.StandingTrees.{trees_in, trees_of, cluster_named, standing, state_after, cluster_after, clusters_after, entries_of, view_in, views_of, DifferAt, is_quiet_in}
+use Rattle.tree_steps.specs.Quiet.{is_quiet, stand_at}
+use Rattle.cluster_tree.specs.StandingTrees.{trees_in, trees_of, cluster_named, standing, state_after, cluster_after, clusters_after, entries_of, view_in, views_of, DifferAt, stands_in}
 use Rattle.tree_steps.specs.Users.{UserList, users_at, ReadsLeaves, IsSoundTree, MarksUsers}
 use Rattle.cluster_tree.specs.ClusterUsers.{IsSound, AreRead, AreRising, AreIndexed, OthersStay, AreStepped}
 use Rattle.tree_steps.specs.Agree.{AgreeOn}
@@ -31,6 +31,7 @@ use Rattle.weighted_lb.specs.Pick.{IsPickable}
 use Rattle.std.proofs.lemmas.List.Elements.{All-map}
 use Rattle.tree_steps.proofs.PickLemmas.{tree_pickable}
 use Rattle.tree_steps.proofs.NameLemmas.{each_once}
+use Rattle.tree_steps.proofs.QuietLemmas.{quiet_stand}
 use Rattle.tree_steps.proofs.StayLemmas.{trees_stay, view_stays}
 
 map_map : {A B C : Type 0} (g : B → C) (f : A → B) (xs : List A) → map g (map f xs) ≡ map (λ x. g (f x)) xs
@@ -187,30 +188,34 @@ all_lawful users clusters indexed = λ k d lt. first_holds AreLawfulLeaves (λ (
 agree_on : (users : UserList) (place : ℕ) (r s : Reports) (leaves : List Leaf) → ReadsLeaves users place leaves → ((a : List ℕ) → Contains (users_at users a) place → state_in s a ≡ state_in r a) → AgreeOn r s leaves
 agree_on users place r s leaves reads agree = λ i d lt j e within k a inside. agree _ (reads i d lt j e within k a inside)
 
+stands_if : (quiet stands : Bool) → (quiet ≡ true → stands ≡ true) → (quiet || stands) ≡ true → stands ≡ true
+stands_if true stands by on = by refl
+stands_if false stands by on = on
+
 ok_stays : (users : UserList) (place : ℕ) (last now : Time) (r s : Reports) (L : Leaves) (old : Option (Pair TreeFacts)) → last.0 ≤ now.0 → ((a : List ℕ) → Contains (users_at users a) place → state_in s a ≡ state_in r a) →
-    IsSoundTree users place L → IsSoundTree users place (trees_after last r L old).serving.leaves → is_quiet (trees_after last r L old) ≡ true →
+    IsSoundTree users place L → IsSoundTree users place (trees_after last r L old).serving.leaves → (is_quiet (trees_after last r L old) || stand_at now (trees_after last r L old)) ≡ true →
     standing s (trees_after now s L (Some (trees_after last r L old))) ≡ standing r (trees_after last r L old)
-ok_stays users place last now r s L old le agree here served quiet =
+ok_stays users place last now r s L old le agree here served on =
     let ts : Pair TreeFacts = trees_after last r L old in
     let other = agree_on users place r s ts.serving.leaves.leaves served.1 agree in
-    let stay = trees_stay last now r s L old le (agree_on users place r s L.leaves here.1 agree) other (each_once L here.0) (each_once ts.serving.leaves served.0) quiet in
+    let stay = trees_stay last now r s L old le (agree_on users place r s L.leaves here.1 agree) other (each_once L here.0) (each_once ts.serving.leaves served.0) (stands_if (is_quiet ts) (stand_at now ts) (quiet_stand now ts) on) in
     let make : TreeView → Standing = λ v. record { trees = ts; view = v; quiet = is_quiet ts } in
     ap (λ (x : Pair TreeFacts). standing s x) stay ∙ ap make (view_stays r s ts other)
 
 state_stays : (users : UserList) (place : ℕ) (last now : Time) (r s : Reports) (state : Result Leaves Reason) (old : Option (Pair TreeFacts)) (here : Result Standing Reason) → last.0 ≤ now.0 →
     ((a : List ℕ) → Contains (users_at users a) place → state_in s a ≡ state_in r a) → here ≡ state_after last r state old → IfOk state (IsSoundTree users place) → IfOk here (λ st. IsSoundTree users place st.trees.serving.leaves) →
-    is_quiet_in here ≡ true → state_after now s state (trees_in here) ≡ here
-state_stays users place last now r s (Ok L) old here le agree is sound served quiet =
+    stands_in now here ≡ true → state_after now s state (trees_in here) ≡ here
+state_stays users place last now r s (Ok L) old here le agree is sound served on =
     let made : Result Standing Reason = Ok (standing r (trees_after last r L old)) in
     let served_m : IfOk made (λ st. IsSoundTree users place st.trees.serving.leaves) = subst (λ (x : Result Standing Reason). IfOk x (λ st. IsSoundTree users place st.trees.serving.leaves)) is served in
-    let quiet_m : is_quiet_in made ≡ true = subst (λ (x : Result Standing Reason). is_quiet_in x ≡ true) is quiet in
-    let stays : state_after now s (Ok L) (trees_in made) ≡ made = ap (λ (st : Standing). let x : Result Standing Reason = Ok st in x) (ok_stays users place last now r s L old le agree sound served_m quiet_m) in
+    let on_m : stands_in now made ≡ true = subst (λ (x : Result Standing Reason). stands_in now x ≡ true) is on in
+    let stays : state_after now s (Ok L) (trees_in made) ≡ made = ap (λ (st : Standing). let x : Result Standing Reason = Ok st in x) (ok_stays users place last now r s L old le agree sound served_m on_m) in
     subst (λ (x : Result Standing Reason). state_after now s (Ok L) (trees_in x) ≡ x) (sym is) stays
-state_stays users place last now r s (Err reason) old here le agree is sound served quiet = sym is
+state_stays users place last now r s (Err reason) old here le agree is sound served on = sym is
 
 pub others_stay : (users : UserList) (changed : List (List ℕ)) (marks : List Bool) (last now : Time) (r s : Reports) (clusters before : List Cluster) → AreIndexed users clusters → MarksUsers users changed marks → length marks ≡ length clusters →
     clusters ≡ clusters_after last r (entries_of clusters) before → DifferAt changed r s → OthersStay last now s marks clusters
-others_stay users changed marks last now r s clusters before indexed marked long is differ = λ place d lt unmarked quiet le.
+others_stay users changed marks last now r s clusters before indexed marked long is differ = λ place d lt unmarked on le.
     let c : Cluster = get_or clusters place d in
     let entries : List ClusterEntry = entries_of clusters in
     let g : ClusterEntry → Cluster = after_entry last r before in
@@ -222,7 +227,7 @@ others_stay users changed marks last now r s clusters before indexed marked long
     λ a reads has. (let clash : true ≡ false = sym (marked a place has reads (omega (arith, long, lt))) ∙ unmarked in cc) in
     let agree : (a : List ℕ) → Contains (users_at users a) place → state_in s a ≡ state_in r a = λ a reads. differ a (never a reads) in
     let o : Option (Pair TreeFacts) = option_and_then trees_of (cluster_named c.entry.name before) in
-    let stays = state_stays users place last now r s c.entry.state o c.state le agree (ap (λ (x : Cluster). x.state) made) sound.0 sound.1 quiet in
+    let stays = state_stays users place last now r s c.entry.state o c.state le agree (ap (λ (x : Cluster). x.state) made) sound.0 sound.1 on in
     let make : Result Standing Reason → Cluster = λ st. record { entry = c.entry; state = st } in
     ap make stays
 

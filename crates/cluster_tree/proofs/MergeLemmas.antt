@@ -19,7 +19,7 @@ use Rattle.cluster_tree.specs.declared.cluster_trees.Cluster.{Cluster}
 use Rattle.cluster_tree.specs.declared.cluster_trees.Standing.{Standing}
 use Rattle.tree_steps.specs.Reports.{Reports}
 use Rattle.tree_steps.specs.Users.{UserList, ReadsLeaves}
-use Rattle.cluster_tree.specs.StandingTrees.{cluster_after, cluster_named, clusters_after, is_quiet_in}
+use Rattle.cluster_tree.specs.StandingTrees.{cluster_after, cluster_named, clusters_after, stands_in}
 use Rattle.cluster_tree.specs.ClusterUsers.{AreRising, IsReached, AreReadIn, AreReadBut, AreIndexed, EntriesStay, StandBut, IsSound, StaysUnmarked}
 use Rattle.cluster_tree.proofs.ForestLemmas.{find_first, names_differ, not_due}
 
@@ -153,10 +153,10 @@ reached_end clusters i end name le is before = record {
 
 -- ---- a cluster that stays as it is
 
-pub stays_same : (last now : Time) (r : Reports) (mark : Bool) (c : Cluster) (entry : ClusterEntry) → StaysUnmarked last now r mark c → (mark || not (is_quiet_in c.state) || nat_lt now.0 last.0) ≡ false → c.entry ≡ entry →
+pub stays_same : (last now : Time) (r : Reports) (mark : Bool) (c : Cluster) (entry : ClusterEntry) → StaysUnmarked last now r mark c → (mark || not (stands_in now c.state) || nat_lt now.0 last.0) ≡ false → c.entry ≡ entry →
     c ≡ cluster_after now r entry (Some c)
 stays_same last now r mark c entry stays off same =
-    let still = not_due mark (is_quiet_in c.state) now.0 last.0 (mark || not (is_quiet_in c.state) || nat_lt now.0 last.0) refl off in
+    let still = not_due mark (stands_in now c.state) now.0 last.0 (mark || not (stands_in now c.state) || nat_lt now.0 last.0) refl off in
     sym (ap (λ (e : ClusterEntry). cluster_after now r e (Some c)) (sym same) ∙ stays still.unmarked still.idle still.le)
 
 -- ---- the loop over the entries

@@ -9,7 +9,7 @@ use Rattle.cluster_tree.specs.declared.cluster_trees.Cluster.{Cluster}
 use Rattle.cluster_tree.specs.declared.cluster_trees.Standing.{Standing}
 use Rattle.tree_steps.specs.Reports.{Reports}
 use Rattle.tree_steps.specs.Users.{UserList, ReadsLeaves, IsSoundTree}
-use Rattle.cluster_tree.specs.StandingTrees.{cluster_after, is_quiet_in}
+use Rattle.cluster_tree.specs.StandingTrees.{cluster_after, stands_in}
 
 -- the leaves of a cluster and of its serving tree are lawful, and the cluster is among those that read their addresses
 abbrev pub IsSound : UserList → ℕ → Cluster → Type 0
@@ -50,9 +50,9 @@ pub record AreIndexed (users : UserList) (clusters : List Cluster) : Type 0 wher
   pub rising : AreRising clusters
   pub sound : (place : ℕ) (d : Cluster) → place < length clusters → IsSound users place (get_or clusters place d)
 
--- without a mark the cluster stays as it is, where no timer runs and time hasn't gone back
+-- without a mark the cluster stays as it is, where no timer has ended and time hasn't gone back
 abbrev pub StaysUnmarked : Time → Time → Reports → Bool → Cluster → Type 0
-StaysUnmarked last now reports mark cluster = mark ≡ false → is_quiet_in cluster.state ≡ true → last.0 ≤ now.0 → cluster_after now reports cluster.entry (Some cluster) ≡ cluster
+StaysUnmarked last now reports mark cluster = mark ≡ false → stands_in now cluster.state ≡ true → last.0 ≤ now.0 → cluster_after now reports cluster.entry (Some cluster) ≡ cluster
 
 abbrev pub OthersStay : Time → Time → Reports → List Bool → List Cluster → Type 0
 OthersStay last now reports marks clusters = (place : ℕ) (d : Cluster) → place < length clusters → StaysUnmarked last now reports (get_or marks place false) (get_or clusters place d)

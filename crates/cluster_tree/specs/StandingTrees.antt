@@ -1,5 +1,5 @@
 -- The trees of the clusters of a configuration, as one step from those before (gRFC A37, A74).
-use Rattle.std.specs.Prelude.{◌≡◌, List, [], map, find, ℕ, bytes_eq, Contains, Bool, true, Result, Ok, Err, Option, Some, None}
+use Rattle.std.specs.Prelude.{◌≡◌, List, [], map, find, ℕ, bytes_eq, Contains, Bool, true, ◌||◌, Result, Ok, Err, Option, Some, None}
 use Rattle.std.specs.Option.{option_and_then}
 use Rattle.xc_base.specs.declared.names.Time.{Time}
 use Rattle.xc_base.specs.declared.reason.Reason.{Reason}
@@ -10,7 +10,7 @@ use Rattle.cluster_tree.specs.declared.cluster_trees.Cluster.{Cluster}
 use Rattle.cluster_tree.specs.declared.cluster_trees.Standing.{Standing}
 use Rattle.tree_steps.specs.declared.tree_view.TreeView.{TreeView}
 use Rattle.tree_steps.specs.Reports.{Reports, state_in}
-use Rattle.tree_steps.specs.Quiet.{is_quiet}
+use Rattle.tree_steps.specs.Quiet.{is_quiet, stand_at}
 use Rattle.tree_steps.specs.TreeSteps.{TreeFacts, trees_after, trees_view}
 
 abbrev pub trees_in : Result Standing Reason → Option (Pair TreeFacts)
@@ -76,6 +76,7 @@ DifferAt changed old new = (address : List ℕ) → (Contains changed address �
 abbrev pub ChangesAt : List (List ℕ) → Reports → Forest → Type 0
 ChangesAt changed reports forest = (last : Reports) × IsUpdatedWith last forest × DifferAt changed last reports
 
-abbrev pub is_quiet_in : Result Standing Reason → Bool
-is_quiet_in (Ok standing) = standing.quiet
-is_quiet_in (Err reason) = true
+-- whether none of the timers of a cluster's trees has ended at a time
+abbrev pub stands_in : Time → Result Standing Reason → Bool
+stands_in now (Ok standing) = standing.quiet || stand_at now standing.trees
+stands_in now (Err reason) = true

@@ -2,11 +2,11 @@
 ghost use Rattle.std.specs.Prelude.{◌≡◌, ◌<◌, ◌≤◌, ◌++◌, ◌∷◌, ◌↔◌, ◌||◌, ℕ, [], length, get_or, option_map, true, false, Some, not, nat_lt, IsTrue, IfOk, IfSome, OnOk};
 ghost use Rattle.xds_config.specs.Configs.{AreLawfulLeaves, IsNameBefore};
 ghost use Rattle.cluster_tree.specs.declared.cluster_trees.Cluster.{Cluster as ClusterValue};
-ghost use Rattle.cluster_tree.specs.StandingTrees.{cluster_after, cluster_named, is_quiet_in};
+ghost use Rattle.cluster_tree.specs.StandingTrees.{cluster_after, cluster_named, stands_in};
 ghost use Rattle.cluster_tree.specs.ClusterUsers.{AreRising, IsReached, StaysUnmarked};
 ghost use Rattle.cluster_tree.specs.ViewChanges.{seen_of, IsChangeMark};
 
-use crate::cluster_trees::{Cluster, NextCluster, cluster_after, is_quiet_cluster, share_cluster};
+use crate::cluster_trees::{Cluster, NextCluster, cluster_after, share_cluster, stands_at};
 use std::alloc::Global;
 use std::cmp::Ordering;
 use std::collections::BTreeMap;
@@ -128,15 +128,15 @@ pub(crate) fn is_marked(marks: &[bool], place: usize) -> bool
 
 /// Whether a cluster has to take an update.
 pub(crate) fn is_due(cluster: &Cluster, turn: Turn) -> bool
-    ensures { result ≡ (turn.marked || not (is_quiet_in cluster.now.state) || nat_lt turn.times.this.0 turn.times.last.0) }
+    ensures { result ≡ (turn.marked || not (stands_in turn.times.this cluster.now.state) || nat_lt turn.times.this.0 turn.times.last.0) }
 {
-    turn.marked || !is_quiet_cluster(cluster) || turn.times.this.0 < turn.times.last.0
+    turn.marked || !stands_at(cluster, turn.times.this) || turn.times.this.0 < turn.times.last.0
 }
 
 /// Whether a cluster stays as it is: its entry does, and it doesn't have to take the update.
 fn stays(cluster: &Cluster, entry: &ClusterEntry, turn: Turn) -> bool
     requires { turn.is_known ≡ true → cluster.now.entry ≡ entry.now }
-    ensures due { result ≡ true → (turn.marked || not (is_quiet_in cluster.now.state) || nat_lt turn.times.this.0 turn.times.last.0) ≡ false }
+    ensures due { result ≡ true → (turn.marked || not (stands_in turn.times.this cluster.now.state) || nat_lt turn.times.this.0 turn.times.last.0) ≡ false }
     ensures same { result ≡ true → cluster.now.entry ≡ entry.now }
 {
     !is_due(cluster, turn) && (turn.is_known || cluster.entry.get().same(entry))

@@ -2,12 +2,12 @@
 ghost use Rattle.std.specs.Prelude.{◌≡◌, ◌↔◌, Some, None, Err, IsTrue, true, map, option_map, IfOk, OnOk};
 ghost use Rattle.std.specs.Option.{option_and_then};
 ghost use Rattle.xds_config.specs.Configs.{AreLawfulLeaves};
-ghost use Rattle.cluster_tree.specs.StandingTrees.{standing, trees_of, cluster_after, view_in, is_quiet_in};
+ghost use Rattle.cluster_tree.specs.StandingTrees.{standing, trees_of, cluster_after, view_in, stands_in};
 ghost use Rattle.cluster_tree.specs.ViewChanges.{seen_of, tree_view_of, IsChangeMark, served_localities};
 ghost use Rattle.tree_steps.specs.Users.{Grows, ReadsLeaves};
 ghost use Rattle.tree_steps.specs.TreeSteps.{trees_after};
 
-use crate::tree_switch::{is_quiet, trees_after, trees_view};
+use crate::tree_switch::{is_quiet, stand_at, trees_after, trees_view};
 use graceful_switch::Switch;
 use std::alloc::Global;
 use std::collections::BTreeMap;
@@ -232,12 +232,12 @@ pub(crate) fn view_of(cluster: &Cluster) -> Result<Result<Shared<TreeView>, Reas
     }
 }
 
-/// Whether no timer of the cluster's trees runs.
-pub(crate) fn is_quiet_cluster(cluster: &Cluster) -> bool
-    ensures { result ≡ is_quiet_in cluster.now.state }
+/// Whether no timer of the cluster's trees has ended at a time in milliseconds.
+pub(crate) fn stands_at(cluster: &Cluster, now: Time) -> bool
+    ensures { result ≡ stands_in now cluster.now.state }
 {
     match &cluster.state {
-        Ok(standing) => standing.get().quiet,
+        Ok(standing) => standing.get().quiet || stand_at(&standing.get().trees, now),
         Err(_) => true,
     }
 }

@@ -3,12 +3,14 @@ ghost use Rattle.std.specs.Prelude.{◌≡◌, Some, option_map, IfOk};
 ghost use Rattle.xds_config.specs.Configs.{AreLawfulLeaves};
 ghost use Rattle.graceful_switch.specs.Takeover.{settled};
 ghost use Rattle.tree_steps.specs.TreeSteps.{state_of, trees_after, named_children, trees_view};
-ghost use Rattle.tree_steps.specs.Quiet.{is_quiet};
+ghost use Rattle.tree_steps.specs.Quiet.{is_quiet, stand_at};
 
 use graceful_switch::Switch;
 use std::alloc::Global;
 use std::collections::BTreeMap;
-use tree_steps::tree::{chosen_picker, follow, has_kind, is_quiet_tree, named_children, stay};
+use tree_steps::tree::{
+    chosen_picker, follow, has_kind, is_quiet_tree, named_children, runs_on, stay,
+};
 use tree_steps::{NamedChild, Tree, TreeView};
 use xc_base::{Address, List, Memory, Shared, State, Time};
 use xds_config::Leaves;
@@ -90,6 +92,19 @@ pub(crate) fn trees_view(
         waiting: waiting_children(alloc, trees.waiting())?,
         picker: chosen_picker(alloc, reports, serving)?,
     })
+}
+
+/// Whether no timer of the trees that runs has ended at a time in milliseconds.
+pub(crate) fn stand_at(trees: &Switch<Tree>, now: Time) -> bool
+    ensures { result ≡ stand_at now trees.now }
+{
+    if !runs_on(trees.serving(), now) {
+        return false;
+    }
+    match trees.waiting() {
+        Some(tree) => runs_on(tree, now),
+        None => true,
+    }
 }
 
 /// Whether no timer of the trees runs.

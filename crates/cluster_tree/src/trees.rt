@@ -126,7 +126,7 @@ fn follow_users(alloc: Global, users: &mut Users, next: &NextClusters) -> Result
     add_all_new(users, &next.clusters, &next.anew)
 }
 
-/// Has each cluster take an update that is marked, or has a timer that runs; each does where time goes
+/// Has each cluster take an update that is marked, or of which a timer has ended; each does where time goes
 /// back. It answers for each cluster whether what is seen of it differs from before.
 fn step_clusters(
     alloc: Global,
@@ -243,7 +243,7 @@ impl Trees {
     /// milliseconds, where every address whose state differs from that of the last update is one of `changed`. It
     /// answers what is seen of each cluster, whether that differs from what was seen of the cluster of its name, and
     /// whether the cluster may be another one than stood at its place. A cluster whose entry is the same as before costs
-    /// little, if it reads none of the addresses and has no timer that runs. Entries are compared where `others` marks
+    /// little, if it reads none of the addresses and none of its timers has ended. Entries are compared where `others` marks
     /// them: one without a mark is known to be the one that stood at its place. After want of memory the trees are spent.
     pub fn update(
         &mut self,
@@ -286,7 +286,7 @@ impl Trees {
 
     /// The same with the configuration of the last update, where every address whose state differs from
     /// that of the last update is one of these. It is for updates that few clusters read: a cluster that
-    /// reads none of the addresses and has no timer that runs costs next to nothing.
+    /// reads none of the addresses, and of which no timer has ended, costs next to nothing.
     pub fn update_states(
         &mut self,
         reports: &BTreeMap<Address, State>,

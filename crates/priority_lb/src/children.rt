@@ -3,6 +3,7 @@ ghost use Rattle.std.specs.Prelude.{◌≡◌, ◌<◌, ◌^◌, ◌&&◌, ◌||
 ghost use Rattle.std.specs.Option.{option_map_or, option_or};
 ghost use Rattle.std.specs.List.{position_from};
 ghost use Rattle.priority_lb.specs.ChildWalk.{chosen, stops, is_ready, is_connecting};
+ghost use Rattle.priority_lb.specs.RunningTimers.{run_on};
 ghost use Rattle.priority_lb.specs.Step.{fresh, seen, walk, step, carried, view_of};
 
 use crate::facts::{ChildFacts, FRESH, is_connecting, is_ready};
@@ -51,6 +52,13 @@ impl Children {
         ensures within { result < length self.old }
     {
         update_all(&mut self.children, states, now)
+    }
+
+    /// Whether no timer of a child that runs has ended at a time in milliseconds. It takes no memory.
+    pub fn run_on(&self, now: Time) -> bool
+        ensures { result ≡ run_on now self.now }
+    {
+        self.children.iter().all(|child| child.runs_on(now))
     }
 
     /// What is seen of the child at a place, from 0. It takes no memory.

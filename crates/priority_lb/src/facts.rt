@@ -2,6 +2,7 @@
 ghost use Rattle.std.specs.Prelude.{◌≡◌, ◌||◌};
 ghost use Rattle.std.specs.Option.{option_map_or};
 ghost use Rattle.priority_lb.specs.ChildWalk.{is_connecting, is_ready, stops};
+ghost use Rattle.priority_lb.specs.RunningTimers.{runs_on};
 ghost use Rattle.priority_lb.specs.Step.{fresh, is_within, was_reached, unused_after, there_after, connecting_after, timed_after, is_pending, facts_after, view_of};
 
 use crate::view::ChildView;
@@ -76,6 +77,14 @@ impl ChildFacts {
             pending: self.pending,
             unused: self.there && self.unused_since.is_some(),
         }
+    }
+
+    /// Whether its timers that run have not ended at a time.
+    pub(crate) fn runs_on(self, now: Time) -> bool
+        ensures { result ≡ runs_on now self }
+    {
+        (!self.pending || is_within_since(FAILOVER, now, self.connecting_since, false))
+            && (!self.there || is_within_since(RETENTION, now, self.unused_since, true))
     }
 
     /// Whether a walk has reached it since it was named.

@@ -18,7 +18,8 @@ use Rattle.graceful_switch.specs.Takeover.{Pair, has_to_wait, settled}
 use Rattle.tree_steps.specs.declared.tree_view.TreeView.{TreeView}
 use Rattle.tree_steps.specs.Reports.{Reports, children_of, name_of, names_of, states_in, child_in}
 use Rattle.tree_steps.specs.TreeSteps.{TreeFacts, begun, followed, stayed, state_of, is_same, has_kind, trees_after, named_children, trees_view, names_before, children_before}
-use Rattle.tree_steps.specs.Quiet.{are_quiet, is_quiet}
+use Rattle.priority_lb.specs.RunningTimers.{run_on}
+use Rattle.tree_steps.specs.Quiet.{stand_at}
 use Rattle.tree_steps.specs.Agree.{AgreeOn}
 use Rattle.tree_steps.proofs.ChildLemmas.{length-begun}
 use Rattle.tree_steps.proofs.QuietLemmas.{walk_stays}
@@ -41,17 +42,17 @@ length_children now r L old =
 abbrev with_walk : Leaves → List Walked → TreeFacts
 with_walk L ws = record { leaves = L; children = map (λ (w : Walked). w.facts) ws; chosen = chosen (map seen ws) }
 
--- a tree that follows the same leaves again, where nothing that it reads has changed and no timer runs
+-- a tree that follows the same leaves again, where nothing that it reads has changed and no timer has ended
 pub tree_stays : (now then : Time) (r s : Reports) (L : Leaves) (old : Option TreeFacts) → now.0 ≤ then.0 → AgreeOn r s L.leaves → IsEachOnce (names_of L.leaves) →
-    are_quiet (followed now r L old).children ≡ true → followed then s L (Some (followed now r L old)) ≡ followed now r L old
-tree_stays now then r s L old le agree once quiet =
+    run_on then (followed now r L old).children ≡ true → followed then s L (Some (followed now r L old)) ≡ followed now r L old
+tree_stays now then r s L old le agree once on =
     let ks : List ChildFacts = begun L old in
     let ss : List State = states_in r L.leaves in
     let t : TreeFacts = followed now r L old in
     let kept : begun L (Some t) ≡ t.children = same_names (names_of L.leaves) t.children once (length_children now r L old) in
     let read : states_in s L.leaves ≡ ss = states_same r s L.leaves agree in
     let walks : walk then (begun L (Some t)) (states_in s L.leaves) ≡ walk now ks ss =
-    ap (λ (cs : List ChildFacts). walk then cs (states_in s L.leaves)) kept ∙ (ap (λ (xs : List State). walk then t.children xs) read ∙ walk_stays now then [] ks ss le quiet) in
+    ap (λ (cs : List ChildFacts). walk then cs (states_in s L.leaves)) kept ∙ (ap (λ (xs : List State). walk then t.children xs) read ∙ walk_stays now then [] ks ss le on) in
     ap (with_walk L) walks
 
 same_kind : (b : Bool) → is_same b b ≡ true
@@ -68,10 +69,10 @@ abbrev serves : Bool → Pair TreeFacts → Pair TreeFacts → Pair TreeFacts
 serves b one other = cond b one other
 
 one_stays : (now then : Time) (r s : Reports) (L : Leaves) (old : Option TreeFacts) → now.0 ≤ then.0 → AgreeOn r s L.leaves → IsEachOnce (names_of L.leaves) →
-    is_quiet (alone (followed now r L old)) ≡ true → trees_after then s L (Some (alone (followed now r L old))) ≡ alone (followed now r L old)
-one_stays now then r s L old le agree once quiet =
+    stand_at then (alone (followed now r L old)) ≡ true → trees_after then s L (Some (alone (followed now r L old))) ≡ alone (followed now r L old)
+one_stays now then r s L old le agree once on =
     let t : TreeFacts = followed now r L old in
-    let stays = tree_stays now then r s L old le agree once (first_by (are_quiet t.children) true quiet) in
+    let stays = tree_stays now then r s L old le agree once (first_by (run_on then t.children) true on) in
     let other : Pair TreeFacts = settled state_of (stayed then s t) (Some (followed then s L None)) in
     ap (λ (b : Bool). cond b (alone (followed then s L (Some t))) other) (same_kind L.aggregate) ∙ ap alone stays
   where
@@ -91,32 +92,32 @@ second_of_both false q is = absurd (cc)
 two_stay : (wait : Bool) (now then : Time) (r s : Reports) (L : Leaves) (old : TreeFacts) (waited : Option TreeFacts) → now.0 ≤ then.0 →
     is_same old.leaves.aggregate L.aggregate ≡ false → has_to_wait (state_of (stayed now r old)) (state_of (followed now r L waited)) ≡ wait →
     (let ts : Pair TreeFacts = cond wait (both (stayed now r old) (followed now r L waited)) (alone (followed now r L waited)) in
-    AgreeOn r s L.leaves → AgreeOn r s ts.serving.leaves.leaves → IsEachOnce (names_of L.leaves) → IsEachOnce (names_of ts.serving.leaves.leaves) → is_quiet ts ≡ true →
+    AgreeOn r s L.leaves → AgreeOn r s ts.serving.leaves.leaves → IsEachOnce (names_of L.leaves) → IsEachOnce (names_of ts.serving.leaves.leaves) → stand_at then ts ≡ true →
     trees_after then s L (Some ts) ≡ ts)
-two_stay true now then r s L old waited le kind waits agree agree_old once once_old quiet =
+two_stay true now then r s L old waited le kind waits agree agree_old once once_old on =
     let t : TreeFacts = stayed now r old in
     let u : TreeFacts = followed now r L waited in
-    let first = tree_stays now then r s old.leaves (Some old) le agree_old once_old (first_of_both (are_quiet t.children) (are_quiet u.children) quiet) in
-    let second = tree_stays now then r s L waited le agree once (second_of_both (are_quiet t.children) (are_quiet u.children) quiet) in
+    let first = tree_stays now then r s old.leaves (Some old) le agree_old once_old (first_of_both (run_on then t.children) (run_on then u.children) on) in
+    let second = tree_stays now then r s L waited le agree once (second_of_both (run_on then t.children) (run_on then u.children) on) in
     ap (λ (b : Bool). cond b (alone (followed then s L (Some t))) (settled state_of (stayed then s t) (Some (followed then s L (Some u))))) kind ∙
     (ap (λ (x : TreeFacts). settled state_of x (Some (followed then s L (Some u)))) first ∙
     (ap (λ (x : TreeFacts). settled state_of t (Some x)) second ∙
     ap (λ (b : Bool). cond b (both t u) (alone u)) waits))
-two_stay false now then r s L old waited le kind waits agree agree_old once once_old quiet = one_stays now then r s L waited le agree once quiet
+two_stay false now then r s L old waited le kind waits agree agree_old once once_old on = one_stays now then r s L waited le agree once on
 
 cases : (b : Bool) (now then : Time) (r s : Reports) (L : Leaves) (old : Pair TreeFacts) → now.0 ≤ then.0 → has_kind L old.serving ≡ b →
     (let ts : Pair TreeFacts = cond b (alone (followed now r L (Some old.serving))) (settled state_of (stayed now r old.serving) (Some (followed now r L old.waiting))) in
-    AgreeOn r s L.leaves → AgreeOn r s ts.serving.leaves.leaves → IsEachOnce (names_of L.leaves) → IsEachOnce (names_of ts.serving.leaves.leaves) → is_quiet ts ≡ true →
+    AgreeOn r s L.leaves → AgreeOn r s ts.serving.leaves.leaves → IsEachOnce (names_of L.leaves) → IsEachOnce (names_of ts.serving.leaves.leaves) → stand_at then ts ≡ true →
     trees_after then s L (Some ts) ≡ ts)
-cases true now then r s L old le kind agree agree_old once once_old quiet = one_stays now then r s L (Some old.serving) le agree once quiet
-cases false now then r s L old le kind agree agree_old once once_old quiet =
-    two_stay (has_to_wait (state_of (stayed now r old.serving)) (state_of (followed now r L old.waiting))) now then r s L old.serving old.waiting le kind refl agree agree_old once once_old quiet
+cases true now then r s L old le kind agree agree_old once once_old on = one_stays now then r s L (Some old.serving) le agree once on
+cases false now then r s L old le kind agree agree_old once once_old on =
+    two_stay (has_to_wait (state_of (stayed now r old.serving)) (state_of (followed now r L old.waiting))) now then r s L old.serving old.waiting le kind refl agree agree_old once once_old on
 
 pub trees_stay : (now then : Time) (r s : Reports) (L : Leaves) (old : Option (Pair TreeFacts)) → now.0 ≤ then.0 → AgreeOn r s L.leaves → AgreeOn r s (trees_after now r L old).serving.leaves.leaves →
-    IsEachOnce (names_of L.leaves) → IsEachOnce (names_of (trees_after now r L old).serving.leaves.leaves) → is_quiet (trees_after now r L old) ≡ true →
+    IsEachOnce (names_of L.leaves) → IsEachOnce (names_of (trees_after now r L old).serving.leaves.leaves) → stand_at then (trees_after now r L old) ≡ true →
     trees_after then s L (Some (trees_after now r L old)) ≡ trees_after now r L old
-trees_stay now then r s L None le agree agree_old once once_old quiet = one_stays now then r s L None le agree once quiet
-trees_stay now then r s L (Some old) le agree agree_old once once_old quiet = cases (has_kind L old.serving) now then r s L old le refl agree agree_old once once_old quiet
+trees_stay now then r s L None le agree agree_old once once_old on = one_stays now then r s L None le agree once on
+trees_stay now then r s L (Some old) le agree agree_old once once_old on = cases (has_kind L old.serving) now then r s L old le refl agree agree_old once once_old on
 
 pub view_stays : (r s : Reports) (ts : Pair TreeFacts) → AgreeOn r s ts.serving.leaves.leaves → trees_view s ts ≡ trees_view r ts
 view_stays r s ts agree =

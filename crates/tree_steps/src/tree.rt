@@ -1,6 +1,7 @@
 //! A tree, and one update of it.
 ghost use Rattle.std.specs.Prelude.{◌≡◌, ◌<◌, ◌^◌, Some, [], length, get_or, slice_get, map, option_map, IfOk, OnOk, not, ◌&&◌};
 ghost use Rattle.xds_config.specs.Configs.{AreLawfulLeaves};
+ghost use Rattle.priority_lb.specs.RunningTimers.{run_on};
 ghost use Rattle.priority_lb.specs.Step.{carried, fresh, view_of};
 ghost use Rattle.priority_lb.specs.ChildLaws.{places};
 ghost use Rattle.tree_steps.specs.Lent.{lent, all_lent};
@@ -243,6 +244,13 @@ pub fn is_quiet_tree(tree: &Tree) -> bool
         }
     }
     true
+}
+
+/// Whether no timer of a tree that runs has ended at a time in milliseconds. It takes no memory.
+pub fn runs_on(tree: &Tree, now: Time) -> bool
+    ensures { result ≡ run_on now tree.now.children }
+{
+    tree.children.run_on(now)
 }
 
 /// Whether no timer of a child runs.

@@ -2,7 +2,7 @@ use Rattle.std.proofs.Common.{◌≡◌, ◌<◌, length, get_or, true, Some, sy
 use Rattle.std.proofs.Common.{arith}
 use Rattle.std.proofs.lemmas.Grind.{common_steps}
 use Rattle.cluster_tree.specs.declared.cluster_trees.Cluster.{Cluster}
-use Rattle.cluster_tree.specs.StandingTrees.{cluster_after, is_quiet_in}
+use Rattle.cluster_tree.specs.StandingTrees.{cluster_after, stands_in}
 use Rattle.cluster_tree.proofs.ForestLemmas.{turn_is, turn_stepped, turn_stays, not_due, are_stepped}
 use Rattle.cluster_tree.proofs.ChangeLemmas.{marks_put}
 use Rattle.cluster_tree.proofs.trees.step_clusters.Goals as goal
@@ -29,8 +29,8 @@ loop-place-preserved c =
           let x : Cluster = c.index.result.now in
           let at : x ≡ get_or c.args.clusters.now.items c.loop-place.place x =
           c.index.ensures ∙ turn_is c.args.times.this c.args.reports.now.entries c.args.clusters.now.items c.loop-place.clusters.items c.loop-place.place x lt c.loop-place.invariant.clusters in
-          let still = not_due _ (is_quiet_in x.state) c.args.times.this.0 c.args.times.last.0 c.is_due.result c.is_due.ensures w.if-is_due.false in
-          let quiet : is_quiet_in (get_or c.args.clusters.now.items c.loop-place.place x).state ≡ true = subst (λ (y : Cluster). is_quiet_in y.state ≡ true) at still.idle in
+          let still = not_due _ (stands_in c.args.times.this x.state) c.args.times.this.0 c.args.times.last.0 c.is_due.result c.is_due.ensures w.if-is_due.false in
+          let quiet : stands_in c.args.times.this (get_or c.args.clusters.now.items c.loop-place.place x).state ≡ true = subst (λ (y : Cluster). stands_in c.args.times.this y.state ≡ true) at still.idle in
           let stays : cluster_after c.args.times.this c.args.reports.now.entries x.entry (Some x) ≡ x =
           subst (λ (y : Cluster). cluster_after c.args.times.this c.args.reports.now.entries y.entry (Some y) ≡ y) (sym at) (c.requires.others c.loop-place.place x lt still.unmarked quiet still.le) in
           record {
