@@ -3,6 +3,7 @@ pub mod DecideLemmas
 pub mod KeptLemmas
 pub mod NewsLemmas
 pub mod PairLemmas
+pub mod PlaceLemmas
 pub mod ReachSteps
 pub mod RenewLemmas
 pub mod ShownLemmas

@@ -1,10 +1,12 @@
 //! A configuration once endpoints changed: what they don't touch is the same shared value as before.
-ghost use Rattle.std.specs.Prelude.{◌≡◌, IfOk, map};
+ghost use Rattle.std.specs.Prelude.{◌≡◌, ◌<◌, ◌||◌, ℕ, All, IfOk, false, get_or, length, map};
 ghost use Rattle.std.specs.List.{list_any};
 ghost use Rattle.dep_manager.specs.EndpointNews.{is_told};
+ghost use Rattle.dep_manager.specs.LeafPlaces.{has_place};
 ghost use Rattle.dep_manager.specs.RenewedConfigs.{joined_marks, renewed_config, renewed_entries, renewed_entry, renewed_leaf, renewed_leaves, renewed_marks, renewed_state};
 
 use crate::endpoint_news::News;
+use crate::leaf_sources::LeafSources;
 use std::alloc::Global;
 use xc_base::{Key, List, Memory, Reason, Shared};
 use xds_config::{ClusterEntry, Config, EndpointValue, Front, Leaf, Leaves};
@@ -93,24 +95,26 @@ fn renewed_state(
     }
 }
 
-/// Whether any of these leaves has its endpoints from a key that changed.
-fn any_told(news: &News, sources: &[Option<Key>]) -> bool
-    ensures { result ≡ list_any (is_told news.now) sources.now }
+/// Sets the marks at these places.
+fn set_marks(mut marks: Vec<bool>, places: &[usize]) -> Vec<bool>
+    requires { All (λ place. place < length marks.items) places.now }
+    ensures count { length result.items ≡ length marks.items }
+    ensures set { (at : ℕ) → get_or result.items at false ≡ (get_or marks.items at false || has_place places.now at) }
 {
-    sources.iter().any(|source| news.tells(source))
+    for place in places {
+        marks[*place] = true;
+    }
+    marks
 }
 
-/// For each of these clusters, whether any of its leaves has its endpoints from a key that changed.
-fn told_marks(
-    alloc: Global,
-    news: &News,
-    sources: &[List<Option<Key>>],
-) -> Result<Vec<bool>, Memory>
+/// For each of these clusters, whether any of its leaves has its endpoints from a key that changed. Each of these keys is looked
+/// up once.
+fn told_marks(alloc: Global, news: &News, sources: &LeafSources) -> Result<Vec<bool>, Memory>
     ensures { IfOk result (λ told. told.items ≡ map (list_any (is_told news.now)) sources.now) }
 {
-    let mut told = Vec::with_capacity(alloc, sources.len())?;
-    for keys in sources {
-        told.push(any_told(news, keys.as_slice()))?;
+    let mut told = vec![in alloc; false; sources.len()]?;
+    for key in news.keys() {
+        told = set_marks(told, sources.places_of(key));
     }
     Ok(told)
 }
@@ -203,7 +207,7 @@ pub fn renewed_config(
     alloc: Global,
     news: &News,
     config: Shared<Config>,
-    sources: &[List<Option<Key>>],
+    sources: &LeafSources,
     others: Vec<bool>,
 ) -> Result<Renewed, Memory>
     ensures config { IfOk result (λ new. new.config ≡ renewed_config news.now config sources.now) }
@@ -221,7 +225,7 @@ pub fn renewed_config(
         alloc,
         news,
         config.get().clusters.as_slice(),
-        sources,
+        sources.as_slice(),
         &told,
     )?;
     let config = Shared::new(alloc, Config { front, clusters })?;

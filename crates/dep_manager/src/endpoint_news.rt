@@ -1,5 +1,6 @@
 //! What is told of keys that changed.
 ghost use Rattle.std.specs.Prelude.{◌≡◌, ◌↔◌, ◌≤◌, ◌+◌, [], None, Some, IfOk, IsTrue, OnOk, false, length, option_map, if◌then◌else◌};
+ghost use Rattle.std.specs.Map.{keys_of};
 ghost use Rattle.xc_base.specs.declared.names.Key.{Key as KeyValue};
 ghost use Rattle.xc_keys.specs.Keys.{is_key};
 ghost use Rattle.xds_config.specs.Endpoints.{IsLawfulEndpoints};
@@ -7,9 +8,10 @@ ghost use Rattle.xds_cache.specs.KeptFates.{fate_of, shown};
 ghost use Rattle.config_assembly.specs.Reach.{is_wanted};
 ghost use Rattle.config_assembly.specs.Watching.{has_key};
 ghost use Rattle.config_assembly.specs.WholeConfigs.{endpoints_of};
-ghost use Rattle.dep_manager.specs.EndpointNews.{AreLawfulNews, are_endpoints, is_told, state_in};
+ghost use Rattle.dep_manager.specs.EndpointNews.{AreLawfulNews, are_endpoints, state_in};
 
 use std::alloc::Global;
+use std::collections::btree_map::Keys;
 use std::collections::{BTreeMap, BTreeSet};
 use std::marker::Model;
 use std::sync::ledger::Ledger;
@@ -66,14 +68,11 @@ impl News {
         self.states.get(key)
     }
 
-    /// Whether a leaf with this key has its endpoints from a key that changed.
-    pub fn tells(&self, source: &Option<Key>) -> bool
-        ensures { result ≡ is_told self.now source.now }
+    /// The keys of which something is told.
+    pub fn keys(&self) -> Keys<'_, Key, Result<Shared<EndpointValue>, Reason>>
+        ensures { result ≡ keys_of self.now }
     {
-        match source {
-            Some(key) => self.get(key).is_some(),
-            None => false,
-        }
+        self.states.keys()
     }
 }
 

@@ -23,7 +23,7 @@ ghost use Rattle.dep_manager.specs.declared.kept_assembly.Kept.{Kept as KeptValu
 
 use crate::config_renewal::renewed_config;
 use crate::endpoint_news::{are_endpoints, awaited_of, news_of};
-use crate::leaf_sources::sources_of_all;
+use crate::leaf_sources::{LeafSources, sources_of_all};
 use config_assembly::assemble::config;
 use config_assembly::front::front;
 use config_assembly::reach::{on_chains, reached_keys, roots};
@@ -46,7 +46,7 @@ pub struct Kept {
     /// The configuration as far as it is known: what is awaited is absent from it.
     pub config: Shared<Config>,
     /// For each of its clusters, the Endpoint key of each leaf, where the leaf's cluster is known.
-    pub sources: List<List<Option<Key>>>,
+    pub sources: LeafSources,
     /// For each of its clusters, whether its entry may be another one than the one that stood at its place in the
     /// configuration that was handed out last.
     pub others: Vec<bool>,
@@ -186,7 +186,7 @@ pub fn renew<L: Ledger>(
         others,
     } = last;
     let news = news_of(alloc, cache, changed, &mut awaited, steps)?;
-    let renewed = renewed_config(alloc, &news, config, sources.as_slice(), others)?;
+    let renewed = renewed_config(alloc, &news, config, &sources, others)?;
     Ok(Kept {
         references,
         awaited,

@@ -1,14 +1,125 @@
 //! The Endpoint keys of leaves.
-ghost use Rattle.std.specs.Prelude.{◌≡◌, IfOk, map, option_map};
+ghost use Rattle.std.specs.Prelude.{◌≡◌, ◌==◌, ◌<◌, ◌||◌, ◌&&◌, ℕ, All, IfOk, OnOk, length, map, option_map};
+ghost use Rattle.std.specs.List.{list_any};
+ghost use Rattle.xc_base.specs.declared.names.Key.{Key as KeyValue};
 ghost use Rattle.xc_base.specs.declared.names.Kind.TheVariants.{Endpoint as EndpointKind};
 ghost use Rattle.config_assembly.specs.DepsViews.{seen, seen_name};
 ghost use Rattle.dep_manager.specs.KeptAssemblies.{source_of, sources_of};
+ghost use Rattle.dep_manager.specs.LeafPlaces.{ArePlacesOf, has_leaf, has_place, is_listed, is_source};
 
 use config_assembly::Sight;
 use config_assembly::reach::endpoint_name;
+use std::alloc::Global;
+use std::collections::BTreeMap;
+use std::marker::Model;
 use std::sync::ledger::Ledger;
 use xc_base::{Key, Kind, List, Memory, Reason, Shared, Steps, Text};
 use xds_config::{ClusterEntry, Leaf, Leaves};
+
+/// Lists a place for the key of a leaf, where it has one.
+fn list_place(
+    alloc: Global,
+    places: &mut BTreeMap<Key, List<usize>>,
+    source: &Option<Key>,
+    place: usize,
+) -> Result<(), Memory>
+    ensures { OnOk result ((key : KeyValue) (at : ℕ) → is_listed places.new.entries key at ≡ (is_listed places.old.entries key at || (is_source key source.now && (place == at)))) }
+{
+    let Some(key) = source else {
+        return Ok(());
+    };
+    if let Some(listed) = places.get_mut(key) {
+        listed.push(place)?;
+        return Ok(());
+    }
+    let mut listed = List::new(alloc);
+    listed.push(place)?;
+    places.insert(key.clone()?, listed)?;
+    Ok(())
+}
+
+/// Lists the place of a cluster for the key of each of its leaves.
+fn list_cluster(
+    alloc: Global,
+    places: &mut BTreeMap<Key, List<usize>>,
+    sources: &[Option<Key>],
+    place: usize,
+) -> Result<(), Memory>
+    ensures { OnOk result ((key : KeyValue) (at : ℕ) → is_listed places.new.entries key at ≡ (is_listed places.old.entries key at || (list_any (is_source key) sources.now && (place == at)))) }
+{
+    for source in sources {
+        list_place(alloc, places, source, place)?;
+    }
+    Ok(())
+}
+
+/// For each key of a leaf, the places of the clusters that have a leaf with it.
+fn places_of(
+    alloc: Global,
+    sources: &[List<Option<Key>>],
+) -> Result<BTreeMap<Key, List<usize>>, Memory>
+    ensures { IfOk result (λ places. ArePlacesOf sources.now places.entries) }
+{
+    let mut places = BTreeMap::new(alloc);
+    for place in 0..sources.len() {
+        list_cluster(alloc, &mut places, sources[place].as_slice(), place)?;
+    }
+    Ok(places)
+}
+
+/// The Endpoint keys of leaves, cluster by cluster, and where each stands. Contracts see the keys.
+#[derive(Drop)]
+pub struct LeafSources {
+    /// For each cluster, the Endpoint key of each leaf, where the leaf's cluster is known.
+    keys: List<List<Option<Key>>>,
+    /// For each of these keys, the places of the clusters that have a leaf with it, from 0.
+    places: BTreeMap<Key, List<usize>>,
+}
+
+impl Model for LeafSources {
+    ghost use Rattle.dep_manager.specs.LeafPlaces.{ArePlacesOf, Sources};
+
+    ghost Value = { Sources };
+
+    ghost view = { λ s. s.keys };
+
+    ghost invariant = { λ s. ArePlacesOf s.keys s.places.entries };
+}
+
+impl LeafSources {
+    /// Those of clusters whose leaves have these keys.
+    fn of(alloc: Global, keys: List<List<Option<Key>>>) -> Result<LeafSources, Memory>
+        ensures { IfOk result (λ sources. sources ≡ keys) }
+    {
+        let places = places_of(alloc, keys.as_slice())?;
+        Ok(LeafSources { keys, places })
+    }
+
+    /// How many clusters there are.
+    pub fn len(&self) -> usize
+        ensures { result ≡ length self.now }
+    {
+        self.keys.len()
+    }
+
+    /// For each cluster, the key of each leaf.
+    pub fn as_slice(&self) -> &[List<Option<Key>>]
+        ensures { result.now ≡ self.now }
+    {
+        self.keys.as_slice()
+    }
+
+    /// The places of the clusters that have a leaf with this key.
+    pub fn places_of(&self, key: &Key) -> &[usize]
+        ensures listed { (at : ℕ) → has_place result.now at ≡ has_leaf self.now key.now at }
+        ensures within { All (λ place. place < length self.now) result.now }
+    {
+        match self.places.get(key) {
+            Some(places) => places.as_slice(),
+            None => &[],
+        }
+    }
+}
 
 /// The key of an Endpoint resource, where there is a name.
 fn endpoint_key(sight: Sight<'_>, name: Option<&Text>) -> Result<Option<Key>, Memory>
@@ -66,12 +177,13 @@ pub fn sources_of_all<L: Ledger>(
     sight: Sight<'_>,
     entries: &[Shared<ClusterEntry>],
     steps: &mut Steps<L>,
-) -> Result<List<List<Option<Key>>>, Memory>
+) -> Result<LeafSources, Memory>
     ensures { IfOk result (λ sources. sources ≡ map (λ entry. sources_of (seen sight.entry) entry.state) entries.now) }
 {
-    let mut sources = List::new(sight.alloc);
+    let mut keys = List::new(sight.alloc);
     for entry in entries {
-        sources.push(sources_of(sight, &entry.get().state, steps)?)?;
+        keys.push(sources_of(sight, &entry.get().state, steps)?)?;
     }
+    let sources = LeafSources::of(sight.alloc, keys)?;
     Ok(sources)
 }

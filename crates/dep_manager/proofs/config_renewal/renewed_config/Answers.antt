@@ -35,7 +35,7 @@ returns-clause-config c =
     c.any_marked.ensures ∙ ap (list_any (λ mark. mark)) (c.deref.ensures.value ∙ c.in_ok-told.ensures) ∙ marked_any (list_any (is_told c.args.news.now)) c.args.sources.now in
     let front : c.in_ok-front.front ≡ c.args.config.front = c.in_ok-front.ensures ∙ ap (λ config. config.front) c.get.ensures in
     let clusters : c.in_ok-clusters.clusters ≡ renewed_entries c.args.news.now c.args.config.clusters c.args.sources.now =
-    c.in_ok-clusters.ensures ∙ ap (λ entries. renewed_entries c.args.news.now entries c.args.sources.now) (c.as_slice.ensures ∙ ap (λ config. config.clusters) c.get-2.ensures) in
+    c.in_ok-clusters.ensures ∙ ap₂ (renewed_entries c.args.news.now) (c.as_slice.ensures ∙ ap (λ config. config.clusters) c.get-2.ensures) c.as_slice-2.ensures in
     let with : c.in_ok-config.config ≡ record { front = c.in_ok-front.front; clusters = c.in_ok-clusters.clusters } = search rules in
     with
     ∙ ap (λ found. record { front = found; clusters = c.in_ok-clusters.clusters }) front
