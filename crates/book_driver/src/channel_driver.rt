@@ -69,7 +69,8 @@ impl Driver {
     /// Takes an event. A response comes with its prepared payload. The references are the clusters to which calls refer; none
     /// are handed in where they are those of the driver's entry before. `latest` is the number of the latest snapshot. A report
     /// of an endpoint's state or on bytes that break no stream, or a sweep, that isn't the driver's first entry counts no step
-    /// where the references are those of the entry before. It fails for want of memory alone, and then nothing is said of what is kept.
+    /// where the references are those of the entry before. It fails for want of memory alone, and then nothing is said of what
+    /// is kept.
     pub fn step<L: Ledger>(
         &mut self,
         event: &DriverEvent,

@@ -1,5 +1,6 @@
 //! What an event brings for the watched keys.
 ghost use Rattle.std.specs.Prelude.{◌≡◌, List, [], None, Some, IfOk, OnOk, IfSome, option_map, unwrap_or, if◌then◌else◌};
+ghost use Rattle.xc_base.specs.declared.names.Key.{Key as KeyValue};
 ghost use Rattle.call_journal.specs.declared.entry.Entry.{Entry as EntryValue};
 ghost use Rattle.xds_history.specs.Setting.{Setting};
 ghost use Rattle.xds_history.specs.Responses.{Came, answered};
@@ -7,7 +8,7 @@ ghost use Rattle.xds_history.specs.Streams.{is_broken, is_unreadable};
 ghost use Rattle.xds_history.specs.declared.page.Page.{Page as PageValue};
 ghost use Rattle.dep_manager.specs.KeptAssemblies.{AreChanges};
 ghost use Rattle.book_fates.specs.FateSteps.{WatchesOnly};
-ghost use Rattle.book_fates.specs.Delivered.{IsReady, delivered_by, delivered_in, touched_by};
+ghost use Rattle.book_fates.specs.Delivered.{HasTouched, IsReady, delivered_by, delivered_in};
 ghost use Rattle.book_fates.specs.FatesKept.{IsKeptAt, IsMarkedAt, is_moment, turned_by};
 
 use ads_stream::Verdict;
@@ -90,7 +91,7 @@ pub fn mark<L: Ledger>(
 ) -> Result<Option<List<Key>>, Memory>
     requires ready { IfSome heard.1 IsReady }
     requires only { WatchesOnly fates.old.cache fates.old.reached }
-    ensures changes { IfOk result (λ expired. AreChanges fates.old.cache fates.new.cache (unwrap_or expired (touched_by heard.1 fates.old.reached))) }
+    ensures changes { IfOk result (λ expired. (touched : List KeyValue) → HasTouched heard.1 fates.old.cache touched → AreChanges fates.old.cache fates.new.cache (unwrap_or expired touched)) }
     ensures marked { OnOk result ((s : Setting) (c : Came) (past : List EntryValue) (ps : List PageValue) → c.event ≡ event.now → c.verdict ≡ heard.0 → option_map delivered_in heard.1 ≡ option_map delivered_by (answered s c) → IsKeptAt past ps fates.old → IsMarkedAt s c past ps now (turned_by event.now heard.0) fates.new) }
 {
     let (verdict, answered) = heard;

@@ -173,7 +173,8 @@ impl Subscriptions {
 
     /// Answers an event at a time, where calls refer to these clusters; none are handed in where they are those of the
     /// driver's last entry. A report of an endpoint's state or on bytes that break no stream, or a sweep, repeats what that one
-    /// settled, unless calls refer to others, and then no step is counted. It fails for want of memory alone, and then nothing is said of what is kept.
+    /// settled, unless calls refer to others, and then no step is counted. It fails for want of memory alone, and then nothing
+    /// is said of what is kept.
     pub fn answer<L: Ledger>(
         &mut self,
         event: &DriverEvent,

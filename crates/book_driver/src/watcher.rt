@@ -68,9 +68,9 @@ impl Watcher {
         })
     }
 
-    /// What is reached, awaited and configured by what is known now (gRFC A74), where these are the watched keys of which something
-    /// else may be known than before. The cache watches what is reached from then on. It fails for want of memory alone, and then
-    /// nothing is said of what is kept.
+    /// What is reached, awaited and configured by what is known now (gRFC A74), where of no watched key but these something else
+    /// is known than before. The cache watches what is reached from then on. It fails for want of memory alone, and then nothing
+    /// is said of what is kept.
     pub fn assemble<L: Ledger>(
         &mut self,
         changed: &List<Key>,

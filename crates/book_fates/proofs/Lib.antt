@@ -10,3 +10,4 @@ pub mod KeptLemmas
 pub mod PageLemmas
 pub mod QuietLemmas
 pub mod NameLemmas
+pub mod TouchLemmas

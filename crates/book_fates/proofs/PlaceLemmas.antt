@@ -19,7 +19,7 @@ use Rattle.config_assembly.specs.Orders.{Name}
 use Rattle.xds_history.specs.Words.{same_kind, lives_at}
 use Rattle.resource_check.specs.declared.delivery.Delivery.{Delivery}
 use Rattle.xds_history.specs.Fates.{mark_of}
-use Rattle.book_fates.specs.FateSteps.{Stepped, after_mark, part_step, parts_step}
+use Rattle.book_fates.specs.FateSteps.{Stepped, after_mark, key_at, part_step, parts_step}
 use Rattle.book_fates.proofs.PartLemmas.{parts_last}
 
 by_two : (a b : Bool) → (a ≡ true → b ≡ true) → (b ≡ true → a ≡ true) → a ≡ b
@@ -34,9 +34,6 @@ pub key_sym : (key other : Key) → is_key key other ≡ is_key other key
 key_sym key other = by_two (is_key key other) (is_key other key) (one_way key other) (one_way other key)
 
 -- ---- the key of a part
-
-abbrev pub key_at : Authority → Kind → Name → Key
-key_at a kind name = record { kind = kind; name = name; home = Home.At a }
 
 equal_kinds : (kind other : Kind) → same_kind kind other ≡ true → kind ≡ other
 equal_kinds Listener Listener is = refl

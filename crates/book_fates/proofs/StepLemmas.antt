@@ -1,8 +1,6 @@
 -- An entry on, what is known is judged anew.
-use Rattle.std.proofs.Common.{◌≡◌, ℕ, ◌+◌, ◌<◌, Bool, true, false, cond, List, [], ◌∷◌, ◌++◌, append-nil, get_or, length, map, take, Option, Some, None, refl, sym, ap, ◌∙◌, option_map}
-use Rattle.std.specs.Prelude.{filter, unwrap_or, ◌||◌, if◌then◌else◌}
-use Rattle.std.proofs.lemmas.List.{take_more}
-use Rattle.std.proofs.lemmas.List.Elements.{filter-append}
+use Rattle.std.proofs.Common.{◌≡◌, Bool, true, false, cond, List, [], ◌∷◌, map, Option, Some, None, refl, sym, ap, ◌∙◌, option_map}
+use Rattle.std.specs.Prelude.{unwrap_or, ◌||◌, if◌then◌else◌}
 use Rattle.std.specs.List.{cons_option}
 use Rattle.std.specs.Option.{option_map_or}
 use Rattle.xc_base.specs.declared.names.Key.{Key}
@@ -104,17 +102,3 @@ known_watched marks keys key = ap (option_map (λ w. judged w.marks)) (found_wat
 pub knows_watched : (old new : Rows) (marks : List Watched) (keys : List Key) → Knows old marks → IsWatching old new keys → Knows new (watch marks keys)
 knows_watched old new marks keys knows are key =
     are key ∙ ap (λ o. if has_key keys key then Some (unwrap_or o Known.Wanted) else None) (knows key) ∙ sym (known_watched marks keys key)
-
--- ---- one member more
-
-filter_last : (p : Key → Bool) (key : Key) (keys : List Key) (b : Bool) → p key ≡ b → keys ++ filter p (key ∷ []) ≡ (if b then keys ++ key ∷ [] else keys)
-filter_last p key keys true is = ap (λ b. keys ++ (if b then key ∷ [] else [])) is
-filter_last p key keys false is = ap (λ b. keys ++ (if b then key ∷ [] else [])) is ∙ append-nil keys
-
-pub filter_next : (p : Key → Bool) (keys old new : List Key) (i : ℕ) (key : Key) → i < length keys → key ≡ get_or keys i key → new ≡ (if p key then old ++ key ∷ [] else old) → old ≡ filter p (take i keys) → new ≡ filter p (take (i + 1) keys)
-filter_next p keys old new i key lt is put kept =
-    put ∙ ap (λ ks. if p key then ks ++ key ∷ [] else ks) kept
-    ∙ sym (filter_last p key (filter p (take i keys)) (p key) refl)
-    ∙ sym (filter-append p (take i keys) (key ∷ []))
-    ∙ ap (λ k. filter p (take i keys ++ k ∷ [])) is
-    ∙ sym (ap (filter p) (take_more keys i key lt))

@@ -1,5 +1,6 @@
 -- What an entry changes of what is known of watched keys.
-use Rattle.std.specs.Prelude.{◌≡◌, List, [], ◌∷◌, Bool, false, ◌&&◌, ◌||◌, not, Option, Some, None, if◌then◌else◌, option_map, option_and_then, true, is_ok, All, IfOk, IsSome}
+use Rattle.std.specs.Prelude.{◌≡◌, List, [], ◌∷◌, Bool, false, ◌&&◌, Option, Some, None, if◌then◌else◌, option_map, option_and_then, true, is_ok, is_some, All, IfOk, IsSome}
+use Rattle.std.specs.List.{filter_map}
 use Rattle.std.specs.Option.{option_or}
 use Rattle.xc_base.specs.declared.names.Kind.{Kind}
 use Rattle.xc_base.specs.declared.names.Authority.{Authority}
@@ -92,9 +93,20 @@ gone_step t key known = if is_let_go t key known then Known.Absent else known
 
 -- ---- what a response can change
 
--- the response is of the key's kind and home, and names the key or may delete it
-abbrev pub is_touched : Told → Key → Bool
-is_touched t key = same_kind t.kind key.kind && lives_at t.authority key.home && (deletes t.kind || not (lacks t key))
+-- the key is of this kind, and this authority is its home
+abbrev pub is_theirs : Authority → Kind → Key → Bool
+is_theirs a kind key = same_kind kind key.kind && lives_at a key.home
+
+-- the key is watched
+abbrev pub watches : Rows → Key → Bool
+watches rows key = is_some (known_of rows key)
+
+-- the key of a named resource
+abbrev pub key_at : Authority → Kind → Name → Key
+key_at a kind name = record { kind = kind; name = name; home = Home.At a }
+
+abbrev pub keys_named : Authority → Kind → List Delivery → List Key
+keys_named a kind parts = filter_map (λ part. option_map (key_at a kind) part.name) parts
 
 -- ---- no name is delivered twice
 

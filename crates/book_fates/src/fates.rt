@@ -2,7 +2,7 @@
 ghost use Rattle.std.specs.Prelude.{◌≡◌, ◌++◌, ◌∷◌, [], List, Some, IsOk, OnOk, IfOk, filter, if◌then◌else◌, length, option_map};
 ghost use Rattle.xc_base.specs.declared.names.Key.{Key as KeyValue};
 ghost use Rattle.xds_cache.specs.KeptFates.{known_of, shown};
-ghost use Rattle.xds_history.specs.Fates.{has_value, lacks};
+ghost use Rattle.xds_history.specs.Fates.{deletes, has_value, lacks};
 ghost use Rattle.xds_history.specs.Setting.{Setting};
 ghost use Rattle.xds_history.specs.Responses.{Came, answered};
 ghost use Rattle.xds_history.specs.Page.{watched_now};
@@ -12,7 +12,7 @@ ghost use Rattle.call_journal.specs.declared.entry.Entry.{Entry as EntryValue};
 ghost use Rattle.xds_history.specs.declared.page.Page.{Page as PageValue};
 ghost use Rattle.book_fates.specs.NamedParts.{AreNamesOf};
 ghost use Rattle.book_fates.specs.Delivered.{IsReady, delivered_by, delivered_in, told_as};
-ghost use Rattle.book_fates.specs.FateSteps.{AreLawfulParts, IsLawfulOf, Stepped, gone_among, gone_step, is_let_go, is_touched, out_among, part_step, parts_step, told_step, Knows, WatchesOnly};
+ghost use Rattle.book_fates.specs.FateSteps.{AreLawfulParts, IsLawfulOf, Stepped, gone_among, gone_step, is_let_go, is_theirs, keys_named, out_among, part_step, parts_step, told_step, watches, Knows, WatchesOnly};
 
 use crate::answered::Answered;
 use crate::part_names::lacks;
@@ -98,40 +98,6 @@ fn is_let_go(response: &Answered, key: &Key, fate: Fate<'_>) -> bool
         && has_value(fate)
 }
 
-/// Whether a response can change what is known of a key: it is of its kind and home, and names it or may delete it.
-fn is_touched(response: &Answered, key: &Key) -> bool
-    requires { AreNamesOf response.now.parts response.now.names }
-    ensures { result ≡ is_touched (told_as (delivered_in response.now)) key.now }
-{
-    same_kind(response.kind, key.kind)
-        && lives_at(response.authority, key.home)
-        && (deletes(response.kind) || !lacks_key(response, key))
-}
-
-/// Puts a key into a list, where a response can change it.
-fn put_touched(touched: &mut List<Key>, response: &Answered, key: &Key) -> Result<(), Memory>
-    requires { AreNamesOf response.now.parts response.now.names }
-    ensures { OnOk result (touched.new ≡ (if is_touched (told_as (delivered_in response.now)) key.now then touched.old ++ key.now ∷ [] else touched.old)) }
-{
-    if !is_touched(response, key) {
-        return Ok(());
-    }
-    touched.push(key.clone()?)?;
-    Ok(())
-}
-
-/// Those of these keys that a response can change.
-pub fn touched_of(alloc: Global, response: &Answered, keys: &[Key]) -> Result<List<Key>, Memory>
-    requires { AreNamesOf response.now.parts response.now.names }
-    ensures { IfOk result (λ touched. touched ≡ filter (is_touched (told_as (delivered_in response.now))) keys.now) }
-{
-    let mut touched = List::new(alloc);
-    for key in keys {
-        put_touched(&mut touched, response, key)?;
-    }
-    Ok(touched)
-}
-
 /// Lets go those of the keys that the response lacks.
 fn let_each_go<L: Ledger>(
     cache: &mut Cache,
@@ -158,6 +124,106 @@ fn let_go<L: Ledger>(cache: &mut Cache, response: &Answered, keys: &[Key], steps
         let_each_go(cache, response, keys, steps);
     }
 }
+
+// ---- the keys that a response can change
+
+/// Whether a key is of a response's kind and home.
+fn is_theirs(response: &Answered, key: &Key) -> bool
+    ensures { result ≡ is_theirs response.now.authority response.now.kind key.now }
+{
+    same_kind(response.kind, key.kind) && lives_at(response.authority, key.home)
+}
+
+/// Puts a key into a list, where it is of a response's kind and home.
+fn put_theirs(theirs: &mut List<Key>, response: &Answered, key: &Key) -> Result<(), Memory>
+    ensures { OnOk result (theirs.new ≡ (if is_theirs response.now.authority response.now.kind key.now then theirs.old ++ key.now ∷ [] else theirs.old)) }
+{
+    if !is_theirs(response, key) {
+        return Ok(());
+    }
+    theirs.push(key.clone()?)?;
+    Ok(())
+}
+
+/// Those of these keys that are of a response's kind and home.
+fn their_keys(alloc: Global, response: &Answered, keys: &[Key]) -> Result<List<Key>, Memory>
+    ensures { IfOk result (λ theirs. theirs ≡ filter (is_theirs response.now.authority response.now.kind) keys.now) }
+{
+    let mut theirs = List::new(alloc);
+    for key in keys {
+        put_theirs(&mut theirs, response, key)?;
+    }
+    Ok(theirs)
+}
+
+/// Puts the key of a resource of a response into a list, where the resource has a name.
+fn put_named(named: &mut List<Key>, response: &Answered, part: &Delivery) -> Result<(), Memory>
+    ensures { OnOk result (named.new ≡ named.old ++ keys_named response.now.authority response.now.kind (part.now ∷ [])) }
+{
+    let Some(name) = &part.name else {
+        return Ok(());
+    };
+    named.push(Key {
+        kind: response.kind,
+        name: name.clone()?,
+        home: Home::At(response.authority),
+    })?;
+    Ok(())
+}
+
+/// Puts a key into a list, where it is watched.
+fn put_watched(watched: &mut List<Key>, cache: &Cache, key: &Key) -> Result<(), Memory>
+    ensures { OnOk result (watched.new ≡ (if watches cache.now key.now then watched.old ++ key.now ∷ [] else watched.old)) }
+{
+    if !cache.is_watched(key) {
+        return Ok(());
+    }
+    watched.push(key.clone()?)?;
+    Ok(())
+}
+
+/// The keys of the named resources of a response.
+fn named_keys(alloc: Global, response: &Answered) -> Result<List<Key>, Memory>
+    ensures { IfOk result (λ named. named ≡ keys_named response.now.authority response.now.kind response.now.parts) }
+{
+    let mut named = List::new(alloc);
+    let parts = response.parts.as_slice();
+    for part in parts {
+        put_named(&mut named, response, part)?;
+    }
+    Ok(named)
+}
+
+/// Those of these keys that are watched.
+fn watched_of(alloc: Global, cache: &Cache, keys: &[Key]) -> Result<List<Key>, Memory>
+    ensures { IfOk result (λ watched. watched ≡ filter (watches cache.now) keys.now) }
+{
+    let mut watched = List::new(alloc);
+    for key in keys {
+        put_watched(&mut watched, cache, key)?;
+    }
+    Ok(watched)
+}
+
+/// The watched keys that a response can change: those of its named resources, or, where its kind deletes what it lacks, those of
+/// these keys that are of its kind and home.
+pub fn touched_of(
+    alloc: Global,
+    cache: &Cache,
+    response: &Answered,
+    keys: &[Key],
+) -> Result<List<Key>, Memory>
+    ensures { IfOk result (λ touched. touched ≡ (if deletes response.now.kind then filter (is_theirs response.now.authority response.now.kind) keys.now else filter (watches cache.now) (keys_named response.now.authority response.now.kind response.now.parts))) }
+{
+    if deletes(response.kind) {
+        their_keys(alloc, response, keys)
+    } else {
+        let named = named_keys(alloc, response)?;
+        watched_of(alloc, cache, named.as_slice())
+    }
+}
+
+// ---- a response
 
 /// Takes in an answered response, where no other keys than these are watched. It takes no memory.
 pub fn take_told<L: Ledger>(

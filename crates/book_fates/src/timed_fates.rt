@@ -1,5 +1,5 @@
 //! The fates of watched keys, and their timers.
-ghost use Rattle.std.specs.Prelude.{◌≡◌, ◌∷◌, List, Option, Some, None, false, IsOk, OnOk, IfOk, IfSome, option_map};
+ghost use Rattle.std.specs.Prelude.{◌≡◌, ◌≤◌, ◌∷◌, List, Option, Some, None, false, IsOk, OnOk, IfOk, length, option_map};
 ghost use Rattle.xc_base.specs.declared.names.Authority.{Authority as AuthorityValue};
 ghost use Rattle.xc_base.specs.declared.names.Time.{Time as TimeValue};
 ghost use Rattle.call_journal.specs.declared.event.DriverEvent.{DriverEvent as EventValue};
@@ -11,7 +11,7 @@ ghost use Rattle.xds_history.specs.declared.page.Page.{Page as PageValue};
 ghost use Rattle.xds_history.specs.Fates.{marked, watch};
 ghost use Rattle.book_fates.specs.declared.timed_fates.Fates.{Fates as FatesValue};
 ghost use Rattle.book_fates.specs.FateSteps.{Stepped, WatchesOnly, out_among, told_step};
-ghost use Rattle.book_fates.specs.Delivered.{IsReady, delivered_by, delivered_in, told_as, touched_by};
+ghost use Rattle.book_fates.specs.Delivered.{AreTheirs, HasTouched, IsReady, delivered_by, delivered_in, most_touched, told_as};
 ghost use Rattle.book_fates.specs.Timing.{AreAskedBy, NoneWanted, StoppedBy, TurnsAt, unreached_among};
 ghost use Rattle.book_fates.specs.FatesKept.{IsKeptAt, IsMarkedAt, is_moment};
 
@@ -37,18 +37,20 @@ pub struct Fates {
 }
 
 impl Fates {
-    /// The watched keys that an answered response can change: those of its kind and home that it names, or that it may delete.
-    /// There are none without a response. It fails for want of memory alone.
+    /// The watched keys that an answered response can change: those that it names, or, where its kind deletes what it lacks, each
+    /// one of its kind and home. There are none without a response. It fails for want of memory alone.
     pub fn touched_keys(
         &self,
         alloc: Global,
         response: &Option<Answered>,
     ) -> Result<List<Key>, Memory>
-        requires { IfSome response.now IsReady }
-        ensures { IfOk result (λ keys. keys ≡ touched_by response.now self.now.reached) }
+        requires only { WatchesOnly self.now.cache self.now.reached }
+        ensures touched { IfOk result (HasTouched response.now self.now.cache) }
+        ensures theirs { IfOk result (AreTheirs response.now) }
+        ensures few { IfOk result (λ keys. length keys ≤ most_touched response.now self.now.reached) }
     {
         match response {
-            Some(response) => touched_of(alloc, response, self.reached.as_slice()),
+            Some(response) => touched_of(alloc, &self.cache, response, self.reached.as_slice()),
             None => Ok(List::new(alloc)),
         }
     }

@@ -1,5 +1,5 @@
 //! The cache of fates.
-ghost use Rattle.std.specs.Prelude.{◌≡◌, ◌+◌, [], OnOk, OnErr, IsOk, unwrap_or};
+ghost use Rattle.std.specs.Prelude.{◌≡◌, ◌+◌, [], OnOk, OnErr, IsOk, unwrap_or, is_some};
 ghost use Rattle.xds_cache.specs.declared.fate.Known.TheVariants.{Wanted};
 ghost use Rattle.xds_config.specs.Values.{IsLawfulValue, kind_of};
 ghost use Rattle.xds_cache.specs.KeptFates.{IsLawfulAt, Changes, watched, unwatched, settled, accepted, refused, taken_away, fate_of, is_value, known_of, shown};
@@ -131,6 +131,13 @@ impl Cache {
         ensures { Changes self.old self.new key.now taken_away }
     {
         self.settle(key, Known::Absent);
+    }
+
+    /// Whether the key is watched. It takes no memory.
+    pub fn is_watched(&self, key: &Key) -> bool
+        ensures { result ≡ is_some (known_of self.now key.now) }
+    {
+        self.known.contains_key(key)
     }
 
     /// The fate of the key: the reason where it has no home, else what is known of it, and wanted where it

@@ -1,16 +1,17 @@
-use Rattle.std.proofs.Common.{sym, ap, ◌∙◌, subst}
+use Rattle.std.proofs.Common.{List, sym, ap, ◌∙◌, subst}
 use Rattle.std.specs.Prelude.{IfOk, option_map, unwrap_or}
+use Rattle.xc_base.specs.declared.names.Key.{Key}
 use Rattle.dep_manager.specs.KeptAssemblies.{AreChanges}
 use Rattle.xds_history.specs.Responses.{answered}
-use Rattle.book_fates.specs.Delivered.{delivered_in, told_as, touched_by}
-use Rattle.book_driver.proofs.ChangeLemmas.{told_changes}
+use Rattle.book_fates.specs.Delivered.{HasTouched, delivered_in}
+use Rattle.book_driver.proofs.ChangeLemmas.{told_changes, untold_changes}
 use Rattle.book_driver.proofs.MarkLemmas.{none_brought, on_ok, response_marks}
 use Rattle.book_driver.proofs.marking.mark.Goals as goal
 
 pub returns-in_ok-take-in-Some-clause-changes : goal.returns-in_ok-take-in-Some-clause-changes
 returns-in_ok-take-in-Some-clause-changes g c =
-    subst (λ o. AreChanges c.args.fates.now.cache c.take.new.self.cache (touched_by o c.args.fates.now.reached)) (sym c.in-Some.is)
-    (told_changes (told_as (delivered_in c.in-Some.response)) c.args.fates.now.cache c.take.new.self.cache c.args.fates.now.reached c.requires.only c.take.ensures.step)
+    subst (λ o. (touched : List Key) → HasTouched o c.args.fates.now.cache touched → AreChanges c.args.fates.now.cache c.take.new.self.cache touched) (sym c.in-Some.is)
+    (λ touched has. told_changes c.in-Some.response c.args.fates.now.cache c.take.new.self.cache touched c.take.ensures.step has)
 
 pub returns-in_ok-take-in-Some-clause-marked : goal.returns-in_ok-take-in-Some-clause-marked
 returns-in_ok-take-in-Some-clause-marked g c s came past ps event verdict brings kept =
@@ -19,7 +20,8 @@ returns-in_ok-take-in-Some-clause-marked g c s came past ps event verdict brings
 
 pub returns-in-None-clause-changes : goal.returns-in-None-clause-changes
 returns-in-None-clause-changes g c =
-    subst (λ o. IfOk c.pass_or_turn.result (λ expired. AreChanges c.args.fates.now.cache c.pass_or_turn.new.fates.cache (unwrap_or expired (touched_by o c.args.fates.now.reached)))) (sym c.in-None.is) c.pass_or_turn.ensures.changes
+    subst (λ o. IfOk c.pass_or_turn.result (λ expired. (touched : List Key) → HasTouched o c.args.fates.now.cache touched → AreChanges c.args.fates.now.cache c.pass_or_turn.new.fates.cache (unwrap_or expired touched))) (sym c.in-None.is)
+    (untold_changes c.pass_or_turn.result c.args.fates.now.cache c.pass_or_turn.new.fates.cache c.pass_or_turn.ensures.changes)
 
 pub returns-in-None-clause-marked : goal.returns-in-None-clause-marked
 returns-in-None-clause-marked g c =

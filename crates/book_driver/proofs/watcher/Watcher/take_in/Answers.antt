@@ -1,5 +1,4 @@
-use Rattle.std.proofs.Common.{refl, sym, ap, ◌∙◌, subst}
-use Rattle.std.specs.Prelude.{unwrap_or}
+use Rattle.std.proofs.Common.{refl, sym, subst}
 use Rattle.dep_manager.specs.KeptAssemblies.{AreChanges}
 use Rattle.xds_history.specs.Pages.{pages}
 use Rattle.book_streams.specs.StreamsLaws.{came_with}
@@ -26,5 +25,5 @@ pub returns-clause-changed : goal.returns-clause-changed
 returns-clause-changed g c right = (
   c.args.self.now.fates.cache,
   right,
-  subst (AreChanges c.args.self.now.fates.cache c.mark.new.fates.cache) (sym (c.changed_by.ensures ∙ ap (unwrap_or c.in_ok-expired.expired) c.in_ok-touched.ensures)) c.in_ok-expired.ensures.changes,
+  subst (AreChanges c.args.self.now.fates.cache c.mark.new.fates.cache) (sym c.changed_by.ensures) (c.in_ok-expired.ensures.changes c.in_ok-touched.touched c.in_ok-touched.ensures.touched),
 )
