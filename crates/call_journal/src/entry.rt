@@ -1,13 +1,15 @@
 //! Entries of the journal.
 use crate::event::{CallerEvent, DriverEvent};
 use crate::reply::{CallerReply, DriverReply};
+use xc_base::Shared;
 
 /// An event with its answer.
 #[derive(Drop)]
 pub enum What {
     Driver {
         event: DriverEvent,
-        reply: DriverReply,
+        /// It stands apart, so that an entry of a caller doesn't take its room.
+        reply: Shared<DriverReply>,
     },
     Caller {
         event: CallerEvent,

@@ -24,7 +24,7 @@ fn push_what(
     ensures { OnOk result (string_bytes out.new ≡ string_bytes out.old ++ what_line boot.now.authorities (option_copied snapshot.entry) (option_copied cluster.entry) actor what.now) }
 {
     match what {
-        What::Driver { event, reply } => push_driver_line(out, boot, event, reply),
+        What::Driver { event, reply } => push_driver_line(out, boot, event, reply.get()),
         What::Caller { event, reply } => {
             push_caller_line(out, snapshot, cluster, actor, event, reply)
         }
@@ -95,7 +95,7 @@ fn push_more(
     ensures { OnOk result (string_bytes out.new ≡ string_bytes out.old ++ more_lines boot.now.authorities (option_copied snapshot.entry) what.now) }
 {
     match what {
-        What::Driver { reply, .. } => push_reply(out, boot, snapshot, reply),
+        What::Driver { reply, .. } => push_reply(out, boot, snapshot, reply.get()),
         What::Caller { .. } => Ok(()),
     }
 }

@@ -28,7 +28,7 @@ fn number_in(what: &What) -> Option<u32>
     ensures { result ≡ number_in what.now }
 {
     match what {
-        What::Driver { reply, .. } => reply.snapshot,
+        What::Driver { reply, .. } => reply.get().snapshot,
         What::Caller { reply, .. } => number_in_reply(reply),
     }
 }

@@ -32,10 +32,10 @@ use call_journal::{DriverEvent, DriverReply, What};
 use cluster_tree::{Snapshot, Trees};
 use resource_check::Prepared;
 use snapshot_store::{Archive, Ticket};
-use std::alloc::AllocError;
+use std::alloc::{AllocError, Global};
 use std::sync::Wait;
 use std::sync::ledger::Ledger;
-use xc_base::{List, Memory, Steps, Text};
+use xc_base::{List, Memory, Shared, Steps, Text};
 
 /// The clusters to which calls refer, and none where they are those of the driver's entry before.
 fn new_references(calls: &Calls) -> Result<Option<List<Text>>, Memory>
@@ -59,9 +59,12 @@ fn number_of(published: &Option<Published>) -> Option<u32>
 }
 
 /// The reply of a step, and what is published by it.
-fn answer_of(stepped: Stepped) -> (DriverReply, Option<Published>)
-    ensures reply { result.0 ≡ reply_in stepped }
-    ensures published { result.1 ≡ stepped.published }
+fn answer_of(
+    alloc: Global,
+    stepped: Stepped,
+) -> Result<(Shared<DriverReply>, Option<Published>), Memory>
+    ensures reply { IfOk result (λ answer. answer.0 ≡ reply_in stepped) }
+    ensures published { IfOk result (λ answer. answer.1 ≡ stepped.published) }
 {
     let Stepped {
         verdict,
@@ -78,7 +81,7 @@ fn answer_of(stepped: Stepped) -> (DriverReply, Option<Published>)
         snapshot,
         refused,
     };
-    (reply, published)
+    Ok((Shared::new(alloc, reply)?, published))
 }
 
 /// Stores the snapshot that is published, if one is, once what is kept of picks has followed it.
@@ -185,14 +188,14 @@ impl<J: Job> Book<J> {
         let stepped = self
             .driver
             .step(&event, prepared, references, latest, steps)?;
-        let (reply, published) = answer_of(stepped);
+        let (reply, published) = answer_of(self.alloc, stepped)?;
         let trees = &self.driver.trees.trees.trees;
         let ticket = store(rt, self.archive.get(), &mut self.turns, trees, published)?;
         let before = (self.refused.len(), lane.refused.len());
         add_to_both(
             &mut self.refused,
             &mut lane.refused,
-            reply.refused.as_slice(),
+            reply.get().refused.as_slice(),
         )?;
         if publish(self.archive.get(), &mut self.calls, ticket).is_err() {
             self.refused.truncate(before.0);

@@ -39,6 +39,15 @@ returns-in_err-stepped-clause-still g c =
     let names = c.in_ok-references.ensures g.J.Job.archive s past c.self.inside.driver.subscriptions.last c.self.invariant.book.right ready.calls_are ready.driver_is.subscribed.references_are in
     λ report still. still_steps s past c.in_ok-references.references c.args.event c.self.inside.driver c.args.steps.now c.step.new.steps ready.driver_is names c.step.ensures.still report (rw (← c.self.view_is) at still)
 
+pub returns-in_err-reply-clause-still : goal.returns-in_err-reply-clause-still
+returns-in_err-reply-clause-still g c =
+    let s = setting_of g.J.Job.boot g.J.Job.target in
+    let past = c.self.inside.journal.entries in
+    let going = rw (← c.self.view_is) at c.requires.goes_on in
+    let ready = c.self.invariant.ready going in
+    let names = c.in_ok-references.ensures g.J.Job.archive s past c.self.inside.driver.subscriptions.last c.self.invariant.book.right ready.calls_are ready.driver_is.subscribed.references_are in
+    λ report still. still_steps s past c.in_ok-references.references c.args.event c.self.inside.driver c.args.steps.now c.step.new.steps ready.driver_is names c.step.ensures.still report (rw (← c.self.view_is) at still)
+
 pub store-requires-after_bounds : goal.store-requires-after_bounds
 store-requires-after_bounds g c κs within =
     let s = setting_of g.J.Job.boot g.J.Job.target in
@@ -49,7 +58,7 @@ store-requires-after_bounds g c κs within =
     let latest = c.latest_number-latest.ensures g.J.Job.archive (pages s past) ready.calls_are in
     let due = due_at g.J.Job.archive g.J.Job.boot g.J.Job.target past c.in_ok-references.references c.latest_number-latest.result c.self.inside.calls c.self.inside.turns c.self.inside.driver c.self.invariant.book.listener c.self.invariant.book.right ready names latest in
     let at = c.in_ok-stepped.ensures.step s past due in
-    subst (λ (p : Option Published). IfSome p IsComplete) (sym c.answer_of-reply.ensures.published) (complete s c.args.event past c.step.new.self.trees.config c.in_ok-stepped.stepped.published at.published)
+    subst (λ (p : Option Published). IfSome p IsComplete) (sym c.in_ok-reply.ensures.published) (complete s c.args.event past c.step.new.self.trees.config c.in_ok-stepped.stepped.published at.published)
 
 pub returns-in_err-ticket-clause-still : goal.returns-in_err-ticket-clause-still
 returns-in_err-ticket-clause-still g c =
@@ -101,21 +110,21 @@ invariant_of-self-2 g c =
     let few = rw (← c.self.view_is) at c.requires.few in
     let went = sym c.is_err.ensures.value ∙ c.if-is_err.false in
     let stored = rw (c.get.ensures, c.self.invariant.book.archive_is) at c.in_ok-ticket.ensures.stored in
-    let publishes = rw (c.get-2.ensures, c.self.invariant.book.archive_is) at (on_ok c.publish.result _ went c.publish.ensures.kept) in
-    let entries = entry_is past c.add_entry.new.journal.entries c.lane.inside.actor c.args.line c.args.event c.in_ok-stepped.stepped (number_in c.in_ok-stepped.stepped.published) actor refl (rw (c.answer_of-reply.ensures.reply) at c.add_entry.ensures.entries) in
+    let publishes = rw (c.get-3.ensures, c.self.invariant.book.archive_is) at (on_ok c.publish.result _ went c.publish.ensures.kept) in
+    let entries = entry_is past c.add_entry.new.journal.entries c.lane.inside.actor c.args.line c.args.event c.in_ok-stepped.stepped (number_in c.in_ok-stepped.stepped.published) actor refl (rw (c.in_ok-reply.ensures.reply) at c.add_entry.ensures.entries) in
     kept_after_drive g.J.Job.plan g.J.Job.archive g.J.Job.boot g.J.Job.target c.self.inside.archive c.self.inside.journal c.add_entry.new.journal c.self.inside.calls c.publish.new.calls c.mark_seen.new.self c.self.inside.turns c.store.new.turns
     c.self.inside.driver c.step.new.self c.self.inside.refused c.add_to_both.new.one c.in_ok-ticket.ticket c.lane.inside.count c.args.line c.args.event c.args.prepared c.in_ok-stepped.stepped c.self.invariant.book ready
     (rw (actor) at get) (rw (actor) at listed) few
     (record {
       at = at;
-      renews = rw (c.answer_of-reply.ensures.published) at c.in_ok-ticket.ensures.turns;
-      value = rw (c.answer_of-reply.ensures.published) at c.in_ok-ticket.ensures.value;
+      renews = rw (c.in_ok-reply.ensures.published) at c.in_ok-ticket.ensures.turns;
+      value = rw (c.in_ok-reply.ensures.published) at c.in_ok-ticket.ensures.value;
       stored = stored;
       publishes = publishes;
       tickets = on_ok c.publish.result _ went c.publish.ensures.tickets;
       seen = c.mark_seen.ensures.kept g.J.Job.archive;
       same = c.mark_seen.ensures.tickets;
-      texts_are = rw (c.as_slice.ensures, c.answer_of-reply.ensures.reply) at c.in_ok-add_to_both.ensures.one;
+      texts_are = rw (c.as_slice.ensures, c.get-2.ensures, c.in_ok-reply.ensures.reply) at c.in_ok-add_to_both.ensures.one;
       entries = entries;
       counts = c.add_entry.ensures.counts;
     })
@@ -135,7 +144,7 @@ returns-clause-entry g c =
     let lane = lane_with c.lane.inside.actor c.lane.inside.refused c.lane.inside.count in
     rw (← c.self.view_is, ← c.lane.view_is)
     (drives_by s past c.args.line c.args.event c.args.prepared c.in_ok-stepped.stepped c.step.new.self view new lane c.add_entry.new.lane (number_in c.in_ok-stepped.stepped.published) c.add_to_both.new.other at refl
-    (rw (c.answer_of-reply.ensures.reply) at c.add_entry.ensures.entries) c.add_entry.ensures.counts c.add_entry.ensures.spare refl going c.add_entry.ensures.lane (rw (c.as_slice.ensures, c.answer_of-reply.ensures.reply) at c.in_ok-add_to_both.ensures.other) c.add_entry.ensures.counted)
+    (rw (c.in_ok-reply.ensures.reply) at c.add_entry.ensures.entries) c.add_entry.ensures.counts c.add_entry.ensures.spare refl going c.add_entry.ensures.lane (rw (c.as_slice.ensures, c.get-2.ensures, c.in_ok-reply.ensures.reply) at c.in_ok-add_to_both.ensures.other) c.add_entry.ensures.counted)
 
 pub returns-clause-still : goal.returns-clause-still
 returns-clause-still g c =
@@ -145,3 +154,9 @@ returns-clause-still g c =
     let ready = c.self.invariant.ready going in
     let names = c.in_ok-references.ensures g.J.Job.archive s past c.self.inside.driver.subscriptions.last c.self.invariant.book.right ready.calls_are ready.driver_is.subscribed.references_are in
     λ report still. still_steps s past c.in_ok-references.references c.args.event c.self.inside.driver c.args.steps.now c.step.new.steps ready.driver_is names c.step.ensures.still report (rw (← c.self.view_is) at still)
+
+pub returns-clause-tickets : goal.returns-clause-tickets
+returns-clause-tickets g c =
+    let went = sym c.is_err.ensures.value ∙ c.if-is_err.false in
+    rw (← c.self.view_is)
+    (taken_front c.self.inside.calls.tickets _ c.mark_seen.new.self.tickets (c.mark_seen.ensures.tickets ∙ on_ok c.publish.result _ went c.publish.ensures.tickets))
