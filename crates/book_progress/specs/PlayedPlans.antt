@@ -1,6 +1,6 @@
 -- What a plan lists for each actor, and the histories that play it (this project's own). Histories have the newest entry
 -- first.
-use Rattle.std.specs.Prelude.{◌≡◌, ℕ, ◌+◌, List, [], ◌∷◌, slice_get, Bool, true, false, Option, Some, None}
+use Rattle.std.specs.Prelude.{◌≡◌, ℕ, ◌+◌, List, [], ◌∷◌, length, slice_get, Bool, true, false, Option, Some, None}
 use Rattle.xc_base.specs.declared.call.Call.{Call}
 use Rattle.call_journal.specs.declared.event.DriverEvent.{DriverEvent}
 use Rattle.call_journal.specs.declared.event.CallerEvent.{CallerEvent}
@@ -12,6 +12,10 @@ use Rattle.call_journal.specs.declared.plan.Listed.{Listed}
 use Rattle.call_journal.specs.declared.plan.ListedEvent.{ListedEvent}
 use Rattle.book_progress.specs.ActorCounts.{count_of, actor_entries}
 use Rattle.book_progress.specs.EndedLines.{IsOpen}
+
+-- all events of a list have ended, and no pin is up
+abbrev pub all_ended : List Listed → Count
+all_ended list = record { ended = length list; pins = 0 }
 
 -- ---- entries that play a listed event
 

@@ -2,7 +2,9 @@
 #![tactic(auto)]
 
 pub mod entry_turns;
+pub mod found_laws;
 pub mod misplaced_turns;
 
 pub use entry_turns::{EntryTurn, EntryTurns, Found};
+pub use found_laws::found_in_turn;
 pub use misplaced_turns::Misplaced;
