@@ -11,6 +11,11 @@ pub enum Stop {
 }
 
 impl From<Memory> for Stop {
+    ghost use Rattle.std.specs.Prelude.{◌≡◌};
+    ghost use Rattle.closed_book.specs.declared.stops.Stop.TheVariants.{Memory as NoMemory};
+
+    ghost from_gives = { λ _ stop. stop ≡ NoMemory };
+
     fn from(_: Memory) -> Stop {
         Stop::Memory
     }

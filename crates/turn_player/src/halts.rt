@@ -12,18 +12,35 @@ pub enum Halt {
 }
 
 impl From<AllocError> for Halt {
+    ghost use Rattle.std.specs.Prelude.{◌≡◌};
+    ghost use Rattle.turn_player.specs.declared.halts.Halt.TheVariants.{Memory};
+
+    ghost from_gives = { λ _ halt. halt ≡ Memory };
+
     fn from(_: AllocError) -> Halt {
         Halt::Memory
     }
 }
 
 impl<T: Drop> From<AllocFailed<T>> for Halt {
+    ghost use Rattle.std.specs.Prelude.{◌≡◌};
+    ghost use Rattle.turn_player.specs.declared.halts.Halt.TheVariants.{Memory};
+
+    ghost from_gives = { λ _ halt. halt ≡ Memory };
+
     fn from(_: AllocFailed<T>) -> Halt {
         Halt::Memory
     }
 }
 
+/// Want of memory comes of nothing else.
 impl From<BookFault> for Halt {
+    ghost use Rattle.std.specs.Prelude.{◌≡◌, ◌↔◌};
+    ghost use Rattle.xds_book.specs.declared.book_faults.BookFault.TheVariants.{Memory as BookMemory};
+    ghost use Rattle.turn_player.specs.declared.halts.Halt.TheVariants.{Memory};
+
+    ghost from_gives = { λ fault halt. (halt ≡ Memory) ↔ (fault ≡ BookMemory) };
+
     fn from(fault: BookFault) -> Halt {
         match fault {
             BookFault::Memory => Halt::Memory,
