@@ -21,6 +21,7 @@ ghost use Rattle.book_driver.specs.WatcherKept.{IsHeardBy, IsReachedBy, IsTimely
 use book_fates::Fates;
 use book_streams::Streams;
 use call_journal::Sent;
+use config_assembly::SharedKeys;
 use dep_manager::{Deps, Outcome};
 use std::alloc::Global;
 use std::sync::ledger::Ledger;
@@ -63,7 +64,7 @@ impl Watcher {
             fates: Fates {
                 cache: Cache::new(alloc),
                 timers: Timers::new(alloc),
-                reached: List::new(alloc),
+                reached: SharedKeys::new(),
             },
         })
     }
@@ -103,7 +104,7 @@ impl Watcher {
     /// came. Timers end and start by them. It fails for want of memory alone, and then nothing is said of what is kept.
     pub fn ask<L: Ledger>(
         &mut self,
-        reached: List<Key>,
+        reached: SharedKeys,
         missing: &Option<Key>,
         now: Time,
         steps: &mut Steps<L>,

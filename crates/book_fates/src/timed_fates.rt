@@ -19,6 +19,7 @@ use crate::answered::Answered;
 use crate::fates::{take_told, touched_of};
 use crate::timing::{expire, start_first, stop_lost, stop_unreached};
 use call_journal::Sent;
+use config_assembly::SharedKeys;
 use std::alloc::Global;
 use std::sync::ledger::Ledger;
 use watch_timers::Timers;
@@ -33,7 +34,7 @@ pub struct Fates {
     /// Since when each one that is waited for was asked for, in ms.
     pub timers: Timers,
     /// The keys, in their order, each once.
-    pub reached: List<Key>,
+    pub reached: SharedKeys,
 }
 
 impl Fates {
@@ -119,7 +120,7 @@ impl Fates {
     /// fails for want of memory alone, and then nothing is said of what is kept.
     pub fn settle<L: Ledger>(
         &mut self,
-        reached: List<Key>,
+        reached: SharedKeys,
         awaits: bool,
         sent: &[Sent],
         now: Time,

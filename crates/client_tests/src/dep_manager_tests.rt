@@ -59,7 +59,7 @@ fn first_update(alloc: Global) -> Result<Outcome, Memory> {
 #[test]
 fn the_listener_is_reached_and_awaited_first(rt: HostRuntime) -> Result<(), Fail> {
     let outcome = first_update(rt.alloc())?;
-    assert_eq!(rt; outcome.reached.len(), 1);
+    assert_eq!(rt; outcome.reached.as_slice().len(), 1);
     assert!(rt; outcome.missing.is_some());
     assert!(rt; outcome.config.is_none());
     Ok(())

@@ -6,9 +6,11 @@ pub mod assemble;
 pub mod front;
 pub mod ordered;
 pub mod reach;
+pub mod shared_keys;
 pub mod sight;
 pub mod table;
 pub mod watching;
 
+pub use shared_keys::SharedKeys;
 pub use sight::Sight;
 pub use table::Table;

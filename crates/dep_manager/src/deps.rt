@@ -21,9 +21,8 @@ ghost use Rattle.dep_manager.specs.UpdateOutcomes.{IsOutcomeBy, outcome_of};
 ghost use Rattle.dep_manager.specs.declared.kept_assembly.Kept.{Kept as KeptValue};
 
 use crate::kept_assembly::{Kept, assembly_of, last_to_follow, renew};
-use config_assembly::Sight;
-use config_assembly::ordered::copy_keys;
 use config_assembly::watching::watch_reached;
+use config_assembly::{SharedKeys, Sight};
 use std::alloc::Global;
 use std::marker::Model;
 use std::sync::ledger::Ledger;
@@ -37,7 +36,7 @@ use xds_name::Target;
 #[derive(Drop)]
 pub struct Outcome {
     /// The keys that are reached, in the order of keys, each once.
-    pub reached: List<Key>,
+    pub reached: SharedKeys,
     /// The least of them that is awaited.
     pub missing: Option<Key>,
     /// The whole configuration, which is there exactly where no reached key is awaited.
@@ -53,7 +52,7 @@ pub struct Outcome {
 #[derive(Drop)]
 pub struct Deps {
     target: Target,
-    reached: List<Key>,
+    reached: SharedKeys,
     last: Option<Kept>,
     shown: Option<Shared<Config>>,
 }
@@ -73,7 +72,7 @@ impl Model for Deps {
 
 /// What an update comes to that reached these keys and made this. Where a configuration is handed out, the marks are taken out of
 /// what was made, and no cluster is marked any more.
-fn outcome_of(alloc: Global, reached: List<Key>, kept: &mut Kept) -> Result<Outcome, Memory>
+fn outcome_of(alloc: Global, reached: SharedKeys, kept: &mut Kept) -> Result<Outcome, Memory>
     ensures outcome { IfOk result (λ o. o ≡ outcome_of reached kept.old o.others) }
     ensures others { IfOk result (λ o. o.others.items ≡ marks_if o.missing kept.old.others.items) }
     ensures kept { kept.new ≡ kept_with kept.old kept.new.others }
@@ -99,14 +98,14 @@ impl Deps {
     {
         Ok(Deps {
             target,
-            reached: List::new(alloc),
+            reached: SharedKeys::new(),
             last: None,
             shown: None,
         })
     }
 
     /// Keeps what an update made, and answers what it comes to where it reached these keys.
-    fn keep(&mut self, alloc: Global, reached: List<Key>, made: Kept) -> Result<Outcome, Memory>
+    fn keep(&mut self, alloc: Global, reached: SharedKeys, made: Kept) -> Result<Outcome, Memory>
         requires { StandAsShown made.others.items self.old.shown made.config }
         ensures outcome { IfOk result (λ o. o ≡ outcome_of reached made o.others) }
         ensures others { IfOk result (λ o. IfSome o.config (λ config. StandAsShown o.others.items self.old.shown config)) }
@@ -157,7 +156,7 @@ impl Deps {
         ensures rises { steps.old ≤ steps.new }
     {
         let kept = renew(alloc, last, changed.as_slice(), cache, steps)?;
-        let reached = copy_keys(alloc, self.reached.as_slice())?;
+        let reached = self.reached.share()?;
         let outcome = self.keep(alloc, reached, kept)?;
         Ok(outcome)
     }
@@ -192,8 +191,9 @@ impl Deps {
             self.reached.as_slice(),
             made.reached.as_slice(),
         )?;
-        let reached = copy_keys(alloc, made.reached.as_slice())?;
-        let outcome = self.keep(alloc, made.reached, made.kept)?;
+        let reached = SharedKeys::of(alloc, made.reached)?;
+        let shared = reached.share()?;
+        let outcome = self.keep(alloc, shared, made.kept)?;
         self.reached = reached;
         Ok(outcome)
     }

@@ -20,12 +20,14 @@ pub returns-clause-outcome : goal.returns-clause-outcome
 returns-clause-outcome g c =
     let r : Resources = resources c.args.self.now.target c.args.boot.now.authorities c.args.cache.now in
     let is : IsAssembledOf r c.in_ok-made.made.reached c.in_ok-made.made.kept = subst (λ d. IsAssembledOf (resources d.target c.args.boot.now.authorities c.args.cache.now) c.in_ok-made.made.reached c.in_ok-made.made.kept) c.self.view_is c.in_ok-made.ensures.assembled in
-    subst (IsOutcomeBy r c.args.references.now) (sym c.in_ok-outcome.ensures.outcome)
+    let keys : c.in_ok-shared.shared ≡ c.in_ok-made.made.reached = c.in_ok-shared.ensures ∙ c.in_ok-reached.ensures in
+    subst (IsOutcomeBy r c.args.references.now) (sym (c.in_ok-outcome.ensures.outcome ∙ ap (λ ks. outcome_of ks c.in_ok-made.made.kept c.in_ok-outcome.outcome.others) keys))
     (subst (λ names. IsOutcomeBy r names (outcome_of c.in_ok-made.made.reached c.in_ok-made.made.kept c.in_ok-outcome.outcome.others)) (c.in_ok-made.ensures.references ∙ c.as_slice.ensures) (outcome_by r c.in_ok-made.made.reached c.in_ok-made.made.kept is c.in_ok-outcome.outcome.others c.in_ok-made.ensures.lawful))
 
 pub returns-clause-watched : goal.returns-clause-watched
 returns-clause-watched g c =
-    subst (IsWatching c.args.cache.now c.watch_reached.new.cache) (c.as_slice-3.ensures ∙ sym (ap (λ o. o.reached) c.in_ok-outcome.ensures.outcome)) c.in_ok-watch_reached.ensures
+    let keys : c.in_ok-shared.shared ≡ c.in_ok-made.made.reached = c.in_ok-shared.ensures ∙ c.in_ok-reached.ensures in
+    subst (IsWatching c.args.cache.now c.watch_reached.new.cache) (c.as_slice-3.ensures ∙ sym (ap (λ o. o.reached) c.in_ok-outcome.ensures.outcome ∙ keys)) c.in_ok-watch_reached.ensures
 
 pub returns-clause-kept : goal.returns-clause-kept
 returns-clause-kept g c =
@@ -33,7 +35,7 @@ returns-clause-kept g c =
     let is : IsAssembledOf r c.in_ok-made.made.reached c.in_ok-made.made.kept = subst (λ d. IsAssembledOf (resources d.target c.args.boot.now.authorities c.args.cache.now) c.in_ok-made.made.reached c.in_ok-made.made.kept) c.self.view_is c.in_ok-made.ensures.assembled in
     right_by c.args.boot.now.authorities c.watch_reached.new.cache c.args.self.now.target c.in_ok-made.made.reached c.in_ok-made.made.kept
     (record { target = c.self-2.inside.target; reached = c.in_ok-reached.reached; last = c.self-2.inside.last; shown = c.self-2.inside.shown })
-    (ap (λ d. d.target) c.self-2.view_is ∙ c.keep.ensures.held.0) (c.in_ok-reached.ensures ∙ c.as_slice-4.ensures)
+    (ap (λ d. d.target) c.self-2.view_is ∙ c.keep.ensures.held.0) c.in_ok-reached.ensures
     (subst (λ d. IsSomeAnd d.last (λ kept. kept ≡ kept_with c.in_ok-made.made.kept kept.others)) (sym c.self-2.view_is) c.in_ok-outcome.ensures.kept)
     (kept_by c.args.boot.now.authorities c.args.cache.now c.watch_reached.new.cache c.args.self.now.target c.args.references.now c.in_ok-made.made.reached c.in_ok-made.made.kept is (c.in_ok-made.ensures.references ∙ c.as_slice.ensures) c.in_ok-made.ensures.lawful
     (subst (IsWatching c.args.cache.now c.watch_reached.new.cache) c.as_slice-3.ensures c.in_ok-watch_reached.ensures))

@@ -20,7 +20,7 @@ returns-clause-outcome g c entries known is changes =
     let listener : c.args.self.now.target.key.kind ≡ Kind.Listener = subst (λ d. d.target.key.kind ≡ Kind.Listener) c.self.view_is c.self.invariant.0 in
     let now : IsKeptOf entries c.args.cache.now c.args.self.now.target c.args.self.now.reached c.in_ok-kept.kept =
     c.in_ok-kept.ensures.kept entries known c.args.self.now.target c.args.self.now.reached listener is (subst (AreChanges known c.args.cache.now) (sym c.as_slice.ensures) changes) in
-    let keys : c.in_ok-reached.reached ≡ c.args.self.now.reached = c.in_ok-reached.ensures ∙ c.as_slice-2.ensures ∙ ap (λ d. d.reached) c.self.view_is in
+    let keys : c.in_ok-reached.reached ≡ c.args.self.now.reached = c.in_ok-reached.ensures ∙ ap (λ d. d.reached) c.self.view_is in
     subst (IsOutcomeBy r c.args.last.references) (sym (c.in_ok-outcome.ensures.outcome ∙ ap (λ ks. outcome_of ks c.in_ok-kept.kept c.in_ok-outcome.outcome.others) keys))
     (subst (λ names. IsOutcomeBy r names (outcome_of c.args.self.now.reached c.in_ok-kept.kept c.in_ok-outcome.outcome.others)) c.in_ok-kept.ensures.references (outcome_by r c.args.self.now.reached c.in_ok-kept.kept now.assembled c.in_ok-outcome.outcome.others now.lawful))
 
@@ -29,7 +29,7 @@ returns-clause-watched g c entries known is changes =
     let listener : c.args.self.now.target.key.kind ≡ Kind.Listener = subst (λ d. d.target.key.kind ≡ Kind.Listener) c.self.view_is c.self.invariant.0 in
     let now : IsKeptOf entries c.args.cache.now c.args.self.now.target c.args.self.now.reached c.in_ok-kept.kept =
     c.in_ok-kept.ensures.kept entries known c.args.self.now.target c.args.self.now.reached listener is (subst (AreChanges known c.args.cache.now) (sym c.as_slice.ensures) changes) in
-    let keys : c.in_ok-reached.reached ≡ c.args.self.now.reached = c.in_ok-reached.ensures ∙ c.as_slice-2.ensures ∙ ap (λ d. d.reached) c.self.view_is in
+    let keys : c.in_ok-reached.reached ≡ c.args.self.now.reached = c.in_ok-reached.ensures ∙ ap (λ d. d.reached) c.self.view_is in
     subst (IsWatching c.args.cache.now c.args.cache.now) (sym (ap (λ o. o.reached) c.in_ok-outcome.ensures.outcome ∙ keys)) (watching_still c.args.cache.now c.args.self.now.reached now.watched)
 
 pub returns-clause-kept : goal.returns-clause-kept
@@ -42,5 +42,5 @@ returns-clause-kept g c entries known is changes =
 
 pub returns-clause-held : goal.returns-clause-held
 returns-clause-held g c =
-    let keys : c.in_ok-reached.reached ≡ c.args.self.now.reached = c.in_ok-reached.ensures ∙ c.as_slice-2.ensures ∙ ap (λ d. d.reached) c.self.view_is in
+    let keys : c.in_ok-reached.reached ≡ c.args.self.now.reached = c.in_ok-reached.ensures ∙ ap (λ d. d.reached) c.self.view_is in
     (c.keep.ensures.held.0, c.keep.ensures.held.1 ∙ sym keys ∙ sym (ap (λ o. o.reached) c.in_ok-outcome.ensures.outcome))
