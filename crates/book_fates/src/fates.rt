@@ -186,8 +186,8 @@ fn put_watched(watched: &mut List<Key>, cache: &Cache, key: &Key) -> Result<(), 
 fn named_keys(alloc: Global, response: &Answered) -> Result<List<Key>, Memory>
     ensures { IfOk result (λ named. named ≡ keys_named response.now.authority response.now.kind response.now.parts) }
 {
-    let mut named = List::new(alloc);
     let parts = response.parts.as_slice();
+    let mut named = List::from_vec(Vec::with_capacity(alloc, parts.len())?);
     for part in parts {
         put_named(&mut named, response, part)?;
     }
@@ -198,7 +198,7 @@ fn named_keys(alloc: Global, response: &Answered) -> Result<List<Key>, Memory>
 fn watched_of(alloc: Global, cache: &Cache, keys: &[Key]) -> Result<List<Key>, Memory>
     ensures { IfOk result (λ watched. watched ≡ filter (watches cache.now) keys.now) }
 {
-    let mut watched = List::new(alloc);
+    let mut watched = List::from_vec(Vec::with_capacity(alloc, keys.len())?);
     for key in keys {
         put_watched(&mut watched, cache, key)?;
     }

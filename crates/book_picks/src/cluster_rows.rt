@@ -56,7 +56,7 @@ fn indexes_in(
     ensures indexes { IfOk result (λ indexes. AreIndexesOf counts.new indexes (keys_in cluster.now child.now (map (λ r. r.now) localities.now))) }
     ensures extends { OnOk result (Extends counts.old counts.new) }
 {
-    let mut indexes = List::new(alloc);
+    let mut indexes = List::from_vec(Vec::with_capacity(alloc, localities.len())?);
     for locality in localities {
         let index = index_in(counts, cluster, child, &locality.id)?;
         indexes.push(index)?;

@@ -54,7 +54,7 @@ fn is_healthy(endpoint: &RawLbEndpoint) -> bool
 fn healthy_addresses(alloc: Global, endpoints: &[RawLbEndpoint]) -> Result<List<Address>, Fault>
     ensures { Tells result (each endpoint_address (filter is_healthy endpoints.now)) }
 {
-    let mut addresses = List::new(alloc);
+    let mut addresses = List::from_vec(Vec::with_capacity(alloc, endpoints.len())?);
     for endpoint in endpoints {
         if !is_healthy(endpoint) {
             continue;
@@ -121,7 +121,7 @@ pub fn weighed_localities(
     ensures value { Tells result (each locality_of (filter is_weighed raws.now)) }
     ensures lawful { IfOk result (All IsLawfulLocality) }
 {
-    let mut localities = List::new(alloc);
+    let mut localities = List::from_vec(Vec::with_capacity(alloc, raws.len())?);
     for raw in raws {
         if weight(raw) == 0 {
             continue;

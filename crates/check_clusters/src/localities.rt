@@ -60,6 +60,16 @@ fn stand_once(alloc: Global, localities: &[Locality]) -> Result<bool, Memory>
     Ok(true)
 }
 
+/// Whether each locality stands once in its priority; no set is made where there are fewer than two.
+fn are_apart(alloc: Global, localities: &[Locality]) -> Result<bool, Memory>
+    ensures { IfOk result (λ once. once ≡ stand_once localities.now) }
+{
+    if localities.len() < 2 {
+        return Ok(true);
+    }
+    stand_once(alloc, localities)
+}
+
 /// Whether the weights of each priority sum to at most 4,294,967,295.
 fn have_weights(localities: &[Locality]) -> bool
     requires { AllPairs (λ a b. a.priority ≤ b.priority) localities.now }
@@ -108,7 +118,7 @@ pub fn stand_soundly(alloc: Global, localities: &[Locality]) -> Result<(), Fault
     requires { AllPairs (λ a b. a.priority ≤ b.priority) localities.now }
     ensures { Tells result (stand_soundly localities.now) }
 {
-    let once = stand_once(alloc, localities)?;
+    let once = are_apart(alloc, localities)?;
     demand(once, Reason::LocalityTwice)?;
     demand(have_weights(localities), Reason::Weights)?;
     demand(have_no_gap(localities), Reason::PriorityGap)

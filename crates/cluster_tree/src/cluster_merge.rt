@@ -50,17 +50,20 @@ pub(crate) struct NextClusters {
 }
 
 impl NextClusters {
-    /// No clusters. It takes no memory.
-    pub(crate) fn new(alloc: Global) -> NextClusters
-        ensures clusters { result.clusters.items ≡ [] }
-        ensures changed { result.changed.items ≡ [] }
-        ensures anew { result.anew.items ≡ [] }
+    /// No clusters, with room for so many. It fails for want of memory alone.
+    pub(crate) fn with_room(alloc: Global, room: usize) -> Result<NextClusters, Memory>
+        ensures clusters { IfOk result (λ next. next.clusters.items ≡ []) }
+        ensures changed { IfOk result (λ next. next.changed.items ≡ []) }
+        ensures anew { IfOk result (λ next. next.anew.items ≡ []) }
     {
-        NextClusters {
-            clusters: Vec::new(alloc),
-            changed: Vec::new(alloc),
-            anew: Vec::new(alloc),
-        }
+        let clusters = Vec::with_capacity(alloc, room)?;
+        let changed = Vec::with_capacity(alloc, room)?;
+        let anew = Vec::with_capacity(alloc, room)?;
+        Ok(NextClusters {
+            clusters,
+            changed,
+            anew,
+        })
     }
 
     /// One more cluster, which has the place that it had before or another one.

@@ -68,7 +68,7 @@ fn views_of(
 ) -> Result<List<Result<Shared<TreeView>, Reason>>, Memory>
     ensures { IfOk result (λ views. views ≡ views_of clusters.now) }
 {
-    let mut views = List::new(alloc);
+    let mut views = List::from_vec(Vec::with_capacity(alloc, clusters.len())?);
     for cluster in clusters {
         views.push(view_of(cluster)?)?;
     }
@@ -223,7 +223,7 @@ impl Trees {
             this: now,
         };
         let old = self.clusters.as_slice();
-        let mut next = NextClusters::new(self.alloc);
+        let mut next = NextClusters::with_room(self.alloc, entries.len())?;
         let mut from = 0;
         for (place, entry) in entries.iter().enumerate() {
             from = first_not_before(old, from, &entry.get().name);

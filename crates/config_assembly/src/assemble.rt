@@ -83,7 +83,7 @@ fn all_leaves<L: Ledger>(
     ensures leaves { IfOk result (λ leaves. leaves ≡ map (leaf_of (seen sight.entry)) names.now) }
     ensures lawful { IfOk result (λ leaves. All (λ leaf. IfOk leaf.state IsLawfulEndpoints) leaves) }
 {
-    let mut leaves = List::new(sight.alloc);
+    let mut leaves = List::from_vec(Vec::with_capacity(sight.alloc, names.len())?);
     for name in names {
         leaves.push(leaf(sight, name, steps)?)?;
     }
@@ -162,7 +162,7 @@ fn entries<L: Ledger>(
     ensures entries { IfOk result (λ entries. entries ≡ map (cluster_entry (seen sight.entry)) names.now) }
     ensures lawful { IfOk result (λ entries. All (λ entry. IfOk entry.state AreLawfulLeaves) entries) }
 {
-    let mut entries = List::new(sight.alloc);
+    let mut entries = List::from_vec(Vec::with_capacity(sight.alloc, names.len())?);
     for name in names {
         entries.push(entry(sight, name, table, steps)?)?;
     }

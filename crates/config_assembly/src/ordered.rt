@@ -55,7 +55,7 @@ pub fn keys_in_order(alloc: Global, keys: BTreeSet<Key>) -> Result<List<Key>, Me
 pub fn copy_keys(alloc: Global, keys: &[Key]) -> Result<List<Key>, Memory>
     ensures { IfOk result (λ list. list ≡ keys.now) }
 {
-    let mut list = List::new(alloc);
+    let mut list = List::from_vec(Vec::with_capacity(alloc, keys.len())?);
     for key in keys {
         list.push(key.clone()?)?;
     }

@@ -64,7 +64,7 @@ fn renewed_leaves(
 ) -> Result<List<Leaf>, Memory>
     ensures { IfOk result (λ list. list ≡ renewed_leaves news.now leaves.now sources.now) }
 {
-    let mut list = List::new(alloc);
+    let mut list = List::from_vec(Vec::with_capacity(alloc, leaves.len())?);
     let mut left = sources;
     for leaf in leaves {
         let Some((source, rest)) = left.split_first() else {

@@ -76,7 +76,7 @@ struct ClusterNames {
 fn copy_names(alloc: Global, names: &[Text]) -> Result<List<Text>, Memory>
     ensures { IfOk result (λ copy. copy ≡ names.now) }
 {
-    let mut copy = List::new(alloc);
+    let mut copy = List::from_vec(Vec::with_capacity(alloc, names.len())?);
     for name in names {
         copy.push(name.clone()?)?;
     }

@@ -151,7 +151,7 @@ fn sources_of_leaves<L: Ledger>(
 ) -> Result<List<Option<Key>>, Memory>
     ensures { IfOk result (λ keys. keys ≡ map (λ leaf. source_of (seen sight.entry) leaf.name) leaves.now) }
 {
-    let mut keys = List::new(sight.alloc);
+    let mut keys = List::from_vec(Vec::with_capacity(sight.alloc, leaves.len())?);
     for leaf in leaves {
         keys.push(source_of(sight, &leaf.name, steps)?)?;
     }
@@ -180,7 +180,7 @@ pub fn sources_of_all<L: Ledger>(
 ) -> Result<LeafSources, Memory>
     ensures { IfOk result (λ sources. sources ≡ map (λ entry. sources_of (seen sight.entry) entry.state) entries.now) }
 {
-    let mut keys = List::new(sight.alloc);
+    let mut keys = List::from_vec(Vec::with_capacity(sight.alloc, entries.len())?);
     for entry in entries {
         keys.push(sources_of(sight, &entry.get().state, steps)?)?;
     }

@@ -77,7 +77,7 @@ impl Children {
         requires places { All (λ place. IfSome place (λ p. p < length self.now)) from.now }
         ensures { IfOk result (λ children. children ≡ carried from.now self.now) }
     {
-        let mut children = Vec::new(self.alloc);
+        let mut children = Vec::with_capacity(self.alloc, from.len())?;
         for place in from {
             children.push(carried_from(&self.children, *place))?;
         }

@@ -76,7 +76,7 @@ pub fn states_of(
 ) -> Result<Vec<State>, Memory>
     ensures { IfOk result (λ states. states.items ≡ map (child_in reports.now.entries) (all_lent children.now)) }
 {
-    let mut states = Vec::new(alloc);
+    let mut states = Vec::with_capacity(alloc, children.len())?;
     for child in children {
         states.push(state_of(alloc, reports, *child)?)?;
     }
@@ -130,7 +130,7 @@ pub fn places_in(
     ensures places { IfOk result (λ from. from.items ≡ places (map name_of (all_lent children.now)) (map name_of (all_lent before.now))) }
     ensures below { IfOk result (λ from. All (λ place. IfSome place (λ p. p < length before.now)) from.items) }
 {
-    let mut from = Vec::new(alloc);
+    let mut from = Vec::with_capacity(alloc, children.len())?;
     for child in children {
         from.push(short_place(place_in(*child, before)))?;
     }

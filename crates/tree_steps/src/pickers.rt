@@ -31,7 +31,7 @@ fn ready_in(
 ) -> Result<List<Address>, Memory>
     ensures { IfOk result (λ ready. ready ≡ filter (λ a. is_ready (state_in reports.now.entries a)) addresses.now) }
 {
-    let mut ready = List::new(alloc);
+    let mut ready = List::from_vec(Vec::with_capacity(alloc, addresses.len())?);
     for address in addresses {
         if is_ready(state_in(reports, address)) {
             ready.push(address.clone()?)?;
@@ -65,7 +65,7 @@ fn parts_of(
     requires { length localities.now < 2 ^ 31 }
     ensures { IfOk result (λ parts. parts ≡ parts_from reports.now.entries 0 (map (λ l. l.now) localities.now)) }
 {
-    let mut parts = List::new(alloc);
+    let mut parts = List::from_vec(Vec::with_capacity(alloc, localities.len())?);
     for (place, locality) in localities.iter().enumerate() {
         if is_ready(locality_in(alloc, reports, locality)?) {
             parts.push(part_at(alloc, reports, place as u32, locality)?)?;

@@ -27,7 +27,7 @@ pub fn locality_in(
 ) -> Result<State, Memory>
     ensures { IfOk result (λ state. state ≡ locality_in reports.now.entries locality.now) }
 {
-    let mut states = Vec::new(alloc);
+    let mut states = Vec::with_capacity(alloc, locality.addresses.len())?;
     for address in locality.addresses.as_slice() {
         states.push(state_in(reports, address))?;
     }
@@ -56,7 +56,7 @@ pub fn priority_in(
 ) -> Result<State, Memory>
     ensures { IfOk result (λ state. state ≡ joined (map (locality_in reports.now.entries) (map (λ l. l.now) localities.now))) }
 {
-    let mut states = Vec::new(alloc);
+    let mut states = Vec::with_capacity(alloc, localities.len())?;
     for locality in localities {
         states.push(locality_in(alloc, reports, locality)?)?;
     }

@@ -197,7 +197,7 @@ pub fn named_children(alloc: Global, tree: &Tree) -> Result<List<NamedChild>, Me
     ensures { IfOk result (λ children. children ≡ named_children tree.now) }
 {
     let children = tree.list_children(alloc)?;
-    let mut named = List::new(alloc);
+    let mut named = List::from_vec(Vec::with_capacity(alloc, children.len())?);
     for (place, child) in children.iter().enumerate() {
         named.push(named_child(*child, tree.view(place as u32))?)?;
     }

@@ -6,7 +6,7 @@ use Rattle.check_clusters.proofs.endpoints.healthy_addresses.Goals as goal
 
 pub returns-in_err-address : goal.returns-in_err-address
 returns-in_err-address c =
-    let p = err_from_is_err_and c.from_residual.result c.from_residual.ensures.1 in
+    let p = err_from_is_err_and c.from_residual-in_err-address.result c.from_residual-in_err-address.ensures.1 in
     rw (p.1, p.2)
     (taken_stops endpoint_address is_healthy c.args.endpoints.now c.loop-endpoint.endpoint-index c.endpoint-item.result c.loop-endpoint.addresses c.in_err-address.field-0.0
     c.loop-endpoint-test.true c.endpoint-item.is (sym c.is_healthy.ensures ∙ c.if-not-is_healthy.false) c.in_err-address.ensures c.loop-endpoint.invariant)

@@ -11,7 +11,7 @@ weighed n m is some = omega (arith, some)
 
 pub returns-in_err-locality-clause-value : goal.returns-in_err-locality-clause-value
 returns-in_err-locality-clause-value c =
-    let p = err_from_is_err_and c.from_residual.result c.from_residual.ensures.1 in
+    let p = err_from_is_err_and c.from_residual-in_err-locality.result c.from_residual-in_err-locality.ensures.1 in
     let some = weighed c.weight.result (weight_of c.raw-item.result) c.weight.ensures c.if-weight-eq0.false in
     rw (p.1, p.2)
     (taken_stops locality_of is_weighed c.args.raws.now c.loop-raw.raw-index c.raw-item.result c.loop-raw.localities c.in_err-locality.field-0.0
