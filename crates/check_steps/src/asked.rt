@@ -99,7 +99,7 @@ impl Asked {
     }
 
     /// Keeps a text that is refused and wasn't asked before.
-    fn refuse(&mut self, text: &Text) -> Result<(), Memory>
+    pub fn refuse(&mut self, text: &Text) -> Result<(), Memory>
         requires { answer_to self.old text.now ≡ None }
         ensures gains { OnOk result (Gains self.old self.new text.now None) }
         ensures refused { OnOk result (self.new.refused ≡ self.old.refused ++ text.now ∷ []) }

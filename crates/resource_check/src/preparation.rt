@@ -54,7 +54,7 @@ fn delivery_of(answer: Result<Checked, Halt>) -> Result<Delivery, Memory>
 }
 
 /// Checks a resource of the kind.
-fn check_resource<P: Patterns>(
+pub fn check_resource<P: Patterns>(
     alloc: Global,
     kind: Kind,
     any: &AnyValue,
@@ -87,7 +87,7 @@ fn has_come(names: &mut BTreeSet<Text>, name: &Option<Text>) -> Result<bool, Mem
 }
 
 /// The resource, which is refused where its name came before.
-fn apart(names: &mut BTreeSet<Text>, part: Delivery) -> Result<Delivery, Memory>
+pub fn apart(names: &mut BTreeSet<Text>, part: Delivery) -> Result<Delivery, Memory>
     ensures part { IfOk result (λ apart. apart ≡ apart_where (has names.old) part) }
     ensures names { OnOk result ((other : List ℕ) → has names.new other ≡ (is_name part.name other || has names.old other)) }
     ensures lawful { IfOk result (λ apart. (kind : ResourceKind) → IsLawfulDelivery kind part → IsLawfulDelivery kind apart) }
@@ -157,7 +157,7 @@ fn check_of_kind<P: Patterns>(
 
 /// The response that the payload is, if it can be read.
 #[tactic(auto, using(crate::proofs::DeliveryLemmas::all_short))]
-fn response(alloc: Global, payload: &[u8]) -> Result<Option<Response>, Memory>
+pub fn response(alloc: Global, payload: &[u8]) -> Result<Option<Response>, Memory>
     requires { length payload.now < 2 ^ 32 }
     ensures reading { IfOk result (λ response. response ≡ result_ok (response_of payload.now)) }
     ensures short { IfOk result (λ response. IfSome response (λ r. AreShort r.resources)) }
