@@ -1,7 +1,6 @@
--- What is found in the text of an entry, and in that of entries after a past.
-use Rattle.std.proofs.Common.{◌≡◌, ℕ, ◌+◌, ◌<◌, ◌^◌, List, [], ◌∷◌, ◌++◌, All, map, Option, Some, None, codes, refl, sym, ap, ◌∙◌, arith, append_assoc}
+-- What is found in the text of an entry, and in the last line.
+use Rattle.std.proofs.Common.{◌≡◌, ℕ, ◌<◌, ◌^◌, List, [], ◌∷◌, ◌++◌, All, Option, Some, None, codes, refl, sym, ap, ◌∙◌, arith, append_assoc}
 use Rattle.std.specs.Fmt.{decimal}
-use Rattle.std.proofs.lemmas.List.Elements.{All-cons, All-head, All-tail}
 use Rattle.xds_bootstrap.specs.declared.bootstrap.AuthorityEntry.{AuthorityEntry}
 use Rattle.cluster_tree.specs.declared.snapshot.Snapshot.{Snapshot}
 use Rattle.call_journal.specs.declared.event.CallerEvent.{CallerEvent}
@@ -19,14 +18,14 @@ use Rattle.report_parts.specs.Snapshots.{clusters_from, front_text, snapshot_lin
 use Rattle.report_parts.specs.Callers.{caller_event_text, caller_line, caller_reply_text, picker_in}
 use Rattle.report_text.specs.EntryText.{entry_lines, more_lines, pattern_lines, reply_lines, request_lines, what_line}
 use Rattle.report_text.specs.ReportLines.{end_line}
-use Rattle.report_turns.specs.TurnLines.{end, entry, findings_in}
+use Rattle.report_turns.specs.TurnLines.{end, entry, next_of}
 use Rattle.xds_history.specs.Setting.{Setting}
 use Rattle.text_law.proofs.TextLemmas.{decimal_lacks, lacks-append}
 use Rattle.text_law.proofs.EntryLemmas.{entry_parts}
-use Rattle.text_law.proofs.AfterLemmas.{shown_next, text_after, text_cut, text_end}
+use Rattle.text_law.proofs.AfterLemmas.{shown_next}
 use Rattle.turn_law.specs.TurnLaw.{IsActor, IsTurn, address_in, event_address, place_of}
 use Rattle.turn_law.proofs.FeedLemmas.{NoFeed, ◌⊕◌, caller_one_line, caller_rest, driver_one_line, driver_rest, literal, number, pattern_rest, plain, reply_address, request_rest, snapshot_rest}
-use Rattle.turn_law.proofs.LineLemmas.{GoesOn, both_go_on, caller_is, driver_is, end_found, entry_found, none_goes_on, one_goes_on}
+use Rattle.turn_law.proofs.LineLemmas.{GoesOn, both_go_on, caller_is, driver_is, end_found, entry_found, next_with, none_goes_on, one_goes_on}
 use Rattle.turn_law.proofs.ReadyLemmas.{picked_plain}
 
 -- ---- lines that go on
@@ -62,7 +61,7 @@ reply_goes_on authorities s r =
     both_go_on (pattern_lines r.refused ++ request_lines authorities r.sent) (snapshot_lines s)
     (both_go_on (pattern_lines r.refused) (request_lines authorities r.sent) (patterns_go_on r.refused) (requests_go_on authorities r.sent)) (snapshot_goes_on s)
 
-more_goes_on : (authorities : List AuthorityEntry) (s : Option Snapshot) (what : What) → GoesOn (more_lines authorities s what)
+pub more_goes_on : (authorities : List AuthorityEntry) (s : Option Snapshot) (what : What) → GoesOn (more_lines authorities s what)
 more_goes_on authorities s (What.Driver event r) = reply_goes_on authorities s r
 more_goes_on authorities s (What.Caller event r) = none_goes_on
 
@@ -97,47 +96,40 @@ HasNoFeed s c (What.Caller event r) = NoFeed (reply_address (picker_in s c) r)
 -- what is found in a text that begins with an entry of these parts
 abbrev FindsIt : List AuthorityEntry → Option Snapshot → Option (List ℕ) → ℕ → ℕ → ℕ → What → List ℕ → Type 0
 FindsIt authorities s c n actor line what rest =
-    findings_in (lines_of (decimal n ++ 32 ∷ (decimal line ++ 32 ∷ (what_line authorities s c actor what ++ (more_lines authorities s what ++ rest)))))
-    ≡ entry record { actor = actor; line = line } ∷ findings_in (lines_of rest)
+    next_of (lines_of (decimal n ++ 32 ∷ (decimal line ++ 32 ∷ (what_line authorities s c actor what ++ (more_lines authorities s what ++ rest)))))
+    ≡ next_with (entry record { actor = actor; line = line }) (lines_of (more_lines authorities s what ++ rest))
 
 what_found : (authorities : List AuthorityEntry) (s : Option Snapshot) (c : Option (List ℕ)) (n actor line : ℕ) (what : What) (rest : List ℕ)
     → IsActor actor what → line < 2 ^ 32 → HasNoFeed s c what → FindsIt authorities s c n actor line what rest
 what_found authorities s c n actor line (What.Driver event r) rest is lt h =
     let more : List ℕ = reply_lines authorities s r ++ rest in
-    ap (λ text. findings_in (lines_of (decimal n ++ 32 ∷ (decimal line ++ 32 ∷ text)))) (driver_parts authorities event r more)
-    ∙ (entry_found n line actor (codes "d") (driver_rest authorities event r) more lt (driver_is ∙ ap Some (sym is)) refl (literal (codes "d") refl) (driver_one_line authorities event r h)
-    ∙ ap (λ found. entry record { actor = actor; line = line } ∷ found) (reply_goes_on authorities s r rest))
+    ap (λ text. next_of (lines_of (decimal n ++ 32 ∷ (decimal line ++ 32 ∷ text)))) (driver_parts authorities event r more)
+    ∙ entry_found n line actor (codes "d") (driver_rest authorities event r) more lt (driver_is ∙ ap Some (sym is)) refl (literal (codes "d") refl) (driver_one_line authorities event r h)
 what_found authorities s c n actor line (What.Caller event r) rest is lt h =
-    ap (λ text. findings_in (lines_of (decimal n ++ 32 ∷ (decimal line ++ 32 ∷ text)))) (caller_parts s c actor event r rest)
+    ap (λ text. next_of (lines_of (decimal n ++ 32 ∷ (decimal line ++ 32 ∷ text)))) (caller_parts s c actor event r rest)
     ∙ entry_found n line actor (99 ∷ decimal actor) (caller_rest s c event r) rest lt (caller_is actor is.0 is.1) (lacks-append 32 (codes "c") (decimal actor) refl (decimal_lacks 32 actor (omega arith)))
     (caller_word actor) (caller_one_line s c event r h)
 
 -- ---- entries
 
 entry_is_found : (authorities : List AuthorityEntry) (s : Option Snapshot) (c : Option (List ℕ)) (n : ℕ) (e : Entry) (rest : List ℕ)
-    → IsTurn e → HasNoFeed s c e.what → findings_in (lines_of (entry_lines authorities s c n e ++ rest)) ≡ entry (place_of e) ∷ findings_in (lines_of rest)
+    → IsTurn e → HasNoFeed s c e.what → next_of (lines_of (entry_lines authorities s c n e ++ rest)) ≡ next_with (entry (place_of e)) (lines_of (more_lines authorities s e.what ++ rest))
 entry_is_found authorities s c n e rest is h =
-    ap (λ text. findings_in (lines_of text)) (entry_parts authorities s c n e rest) ∙ what_found authorities s c n e.actor e.line e.what rest is.actor is.line h
+    ap (λ text. next_of (lines_of text)) (entry_parts authorities s c n e rest) ∙ what_found authorities s c n e.actor e.line e.what rest is.actor is.line h
 
 one_line : (s : Setting) (past : List Entry) (actor line : ℕ) (what : What) → NoFeed (address_in what) → All IsTurn past
     → HasNoFeed (shown_next s past record { actor = actor; line = line; what = what }).snapshot (shown_next s past record { actor = actor; line = line; what = what }).cluster what
 one_line s past actor line (What.Driver event r) h are = h
 one_line s past actor line (What.Caller event r) h are = picked_plain s past (shown_next s past record { actor = actor; line = line; what = What.Caller event r }).cluster r are
 
-end_is_found : (entries snapshots : ℕ) → findings_in (lines_of (end_line entries snapshots)) ≡ end ∷ []
+-- the entry that comes next after a past
+pub next_is_found : (authorities : List AuthorityEntry) (s : Setting) (past : List Entry) (e : Entry) (n : ℕ) (rest : List ℕ) → IsTurn e → All IsTurn past
+    → next_of (lines_of (entry_lines authorities (shown_next s past e).snapshot (shown_next s past e).cluster n e ++ rest))
+    ≡ next_with (entry (place_of e)) (lines_of (more_lines authorities (shown_next s past e).snapshot e.what ++ rest))
+next_is_found authorities s past e n rest is were =
+    entry_is_found authorities (shown_next s past e).snapshot (shown_next s past e).cluster n e rest is (one_line s past e.actor e.line e.what (plain (address_in e.what) is.one_line) were)
+
+pub end_is_found : (entries snapshots : ℕ) → (next_of (lines_of (end_line entries snapshots))).finding ≡ end
 unfolding end_line
 end_is_found entries snapshots =
     end_found (decimal entries ++ codes " " ++ decimal snapshots) [] (number entries ⊕ literal (codes " ") refl ⊕ number snapshots)
-
--- the entries after a past, the oldest first, and then the end
-pub found_after : (authorities : List AuthorityEntry) (s : Setting) (past es : List Entry) (n entries snapshots : ℕ) → All IsTurn past → All IsTurn es
-    → findings_in (lines_of (text_after authorities s past n es (end_line entries snapshots))) ≡ map (λ e. entry (place_of e)) es ++ end ∷ []
-found_after authorities s past [] n entries snapshots were are =
-    ap (λ text. findings_in (lines_of text)) (text_end authorities s past n (end_line entries snapshots)) ∙ end_is_found entries snapshots
-found_after authorities s past (e ∷ es) n entries snapshots were are =
-    let here : IsTurn e = All-head IsTurn e es are in
-    let rest = found_after authorities s (e ∷ past) es (n + 1) entries snapshots (All-cons IsTurn e past here were) (All-tail IsTurn e es are) in
-    ap (λ text. findings_in (lines_of text)) (text_cut authorities s past n e es (end_line entries snapshots))
-    ∙ (entry_is_found authorities (shown_next s past e).snapshot (shown_next s past e).cluster n e (text_after authorities s (e ∷ past) (n + 1) es (end_line entries snapshots)) here
-    (one_line s past e.actor e.line e.what (plain (address_in e.what) here.one_line) were)
-    ∙ ap (λ found. entry (place_of e) ∷ found) rest)

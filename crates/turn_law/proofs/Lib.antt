@@ -6,4 +6,7 @@ pub mod PlayedTurns
 pub mod LineLemmas
 pub mod ReadyLemmas
 pub mod FoundLemmas
+pub mod LaterLemmas
+pub mod ListedLemmas
+pub mod InTurnProofs
 mod TurnProofs

@@ -10,7 +10,7 @@ use Rattle.std.proofs.lemmas.List.Splits.{slice_split_at}
 use Rattle.xc_base.specs.Numbers.{number_of}
 use Rattle.xc_base.proofs.NumberLemmas.{numbers_are_decimal}
 use Rattle.session_lines.specs.Lines.{lines_of, words_of}
-use Rattle.report_turns.specs.TurnLines.{actor_in, caller_actor, end, entry, entry_or_strange, finding_at, findings_in, goes_on, is_last, line_in, place_in, session_line, turn_by, turn_in, with_more}
+use Rattle.report_turns.specs.TurnLines.{Finding, Next, actor_in, caller_actor, end, entry, entry_or_strange, finding_at, goes_on, is_last, line_in, next_of, place_in, session_line, turn_by, turn_in}
 use Rattle.report_turns.proofs.TurnLemmas.{fourth}
 use Rattle.text_law.proofs.Texts.{lacks}
 use Rattle.text_law.proofs.TextLemmas.{decimal_lacks, decimal_lacks_letters, decimal_nonempty}
@@ -43,23 +43,23 @@ first_word word rest h = slice_split_at (λ b. eqb b 32) word 32 rest (no_space 
 
 -- ---- lines that go on
 
-goes_past : (line : List ℕ) (lines : List (List ℕ)) → findings_in ((32 ∷ 32 ∷ line) ∷ lines) ≡ findings_in lines
+goes_past : (line : List ℕ) (lines : List (List ℕ)) → next_of ((32 ∷ 32 ∷ line) ∷ lines) ≡ next_of lines
 goes_past line lines = refl
 
--- a text of lines that go on, which finds nothing
+-- a text of lines that go on, in which nothing is found
 abbrev pub GoesOn : List ℕ → Type 0
-GoesOn text = (rest : List ℕ) → findings_in (lines_of (text ++ rest)) ≡ findings_in (lines_of rest)
+GoesOn text = (rest : List ℕ) → next_of (lines_of (text ++ rest)) ≡ next_of (lines_of rest)
 
 pub one_goes_on : (line : List ℕ) → NoFeed line → GoesOn ((32 ∷ 32 ∷ line) ++ codes "\n")
 one_goes_on line h rest =
     let cut : lines_of ((32 ∷ 32 ∷ line) ++ 10 ∷ rest) ≡ (32 ∷ 32 ∷ line) ∷ lines_of rest = first_line (32 ∷ 32 ∷ line) rest (literal (codes "  ") refl ⊕ h) in
-    ap (λ text. findings_in (lines_of text)) (append_assoc (32 ∷ 32 ∷ line) (codes "\n") rest) ∙ (ap findings_in cut ∙ goes_past line (lines_of rest))
+    ap (λ text. next_of (lines_of text)) (append_assoc (32 ∷ 32 ∷ line) (codes "\n") rest) ∙ (ap next_of cut ∙ goes_past line (lines_of rest))
 
 pub none_goes_on : GoesOn []
 none_goes_on rest = refl
 
 pub both_go_on : (one other : List ℕ) → GoesOn one → GoesOn other → GoesOn (one ++ other)
-both_go_on one other h k rest = ap (λ text. findings_in (lines_of text)) (append_assoc one other rest) ∙ (h (other ++ rest) ∙ k rest)
+both_go_on one other h k rest = ap (λ text. next_of (lines_of text)) (append_assoc one other rest) ∙ (h (other ++ rest) ∙ k rest)
 
 -- ---- the first line of an entry
 
@@ -119,11 +119,15 @@ finding_is n line actor word what lt is one =
     cond-false _ _ _ (begins_no_end (decimal n) (32 ∷ (decimal line ++ 32 ∷ (word ++ 32 ∷ what))) (decimal_nonempty n) (decimal_lacks_letters 101 n (omega arith)))
     ∙ ap entry_or_strange (turn_is n line actor word what lt is one)
 
+-- a finding, and the lines behind it
+abbrev pub next_with : Finding → List (List ℕ) → Next
+next_with finding lines = record { finding = finding; behind = lines }
+
 line_found : (n line actor : ℕ) (word what : List ℕ) (lines : List (List ℕ)) → line < 2 ^ 32 → actor_in word ≡ Some actor → lacks 32 word ≡ true
-    → findings_in (entry_words n line word what ∷ lines) ≡ entry record { actor = actor; line = line } ∷ findings_in lines
+    → next_of (entry_words n line word what ∷ lines) ≡ next_with (entry record { actor = actor; line = line }) lines
 line_found n line actor word what lines lt is one =
     cond-false _ _ _ (begins_no_further (decimal n) (32 ∷ (decimal line ++ 32 ∷ (word ++ 32 ∷ what))) (decimal_nonempty n) (decimal_lacks 32 n (omega arith)))
-    ∙ ap (λ finding. with_more finding (findings_in lines)) (finding_is n line actor word what lt is one)
+    ∙ ap (λ (finding : Finding). next_with finding lines) (finding_is n line actor word what lt is one)
 
 -- the rest of a text, behind the words of its first line
 behind : (a b c d rest : List ℕ) → a ++ 32 ∷ (b ++ 32 ∷ (c ++ 32 ∷ (d ++ rest))) ≡ (a ++ 32 ∷ (b ++ 32 ∷ (c ++ 32 ∷ d))) ++ rest
@@ -132,18 +136,18 @@ behind a b c d rest =
     ∙ ap (λ text. a ++ 32 ∷ text) (append_assoc b (32 ∷ (c ++ 32 ∷ d)) rest ∙ ap (λ text. b ++ 32 ∷ text) (append_assoc c (32 ∷ d) rest)))
 
 pub entry_found : (n line actor : ℕ) (word what rest : List ℕ) → line < 2 ^ 32 → actor_in word ≡ Some actor → lacks 32 word ≡ true → NoFeed word → NoFeed what
-    → findings_in (lines_of (decimal n ++ 32 ∷ (decimal line ++ 32 ∷ (word ++ 32 ∷ (what ++ 10 ∷ rest))))) ≡ entry record { actor = actor; line = line } ∷ findings_in (lines_of rest)
+    → next_of (lines_of (decimal n ++ 32 ∷ (decimal line ++ 32 ∷ (word ++ 32 ∷ (what ++ 10 ∷ rest))))) ≡ next_with (entry record { actor = actor; line = line }) (lines_of rest)
 entry_found n line actor word what rest lt is one here more =
     let space = literal (codes " ") refl in
     let whole : NoFeed (entry_words n line word what) = number n ⊕ (space ⊕ (number line ⊕ (space ⊕ (here ⊕ (space ⊕ more))))) in
-    ap (λ text. findings_in (lines_of text)) (behind (decimal n) (decimal line) word what (10 ∷ rest))
-    ∙ (ap findings_in (first_line (entry_words n line word what) rest whole) ∙ line_found n line actor word what (lines_of rest) lt is one)
+    ap (λ text. next_of (lines_of text)) (behind (decimal n) (decimal line) word what (10 ∷ rest))
+    ∙ (ap next_of (first_line (entry_words n line word what) rest whole) ∙ line_found n line actor word what (lines_of rest) lt is one)
 
 -- ---- the last line
 
-last_found : (line : List ℕ) (lines : List (List ℕ)) → findings_in ((codes "end " ++ line) ∷ lines) ≡ end ∷ []
+last_found : (line : List ℕ) (lines : List (List ℕ)) → (next_of ((codes "end " ++ line) ∷ lines)).finding ≡ end
 unfolding finding_at
 last_found line lines = refl
 
-pub end_found : (line rest : List ℕ) → NoFeed line → findings_in (lines_of ((codes "end " ++ line) ++ 10 ∷ rest)) ≡ end ∷ []
-end_found line rest h = ap findings_in (first_line (codes "end " ++ line) rest (literal (codes "end ") refl ⊕ h)) ∙ last_found line (lines_of rest)
+pub end_found : (line rest : List ℕ) → NoFeed line → (next_of (lines_of ((codes "end " ++ line) ++ 10 ∷ rest))).finding ≡ end
+end_found line rest h = ap (λ lines. (next_of lines).finding) (first_line (codes "end " ++ line) rest (literal (codes "end ") refl ⊕ h)) ∙ last_found line (lines_of rest)

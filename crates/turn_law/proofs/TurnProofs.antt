@@ -1,47 +1,38 @@
 -- The turns that are read from the report of a history are those of its entries.
-use Rattle.std.proofs.Common.{◌≡◌, ℕ, List, [], ◌∷◌, ◌++◌, drop, length, reverse, refl, sym, ap, ◌∙◌, append_assoc}
-use Rattle.std.specs.Option.{unwrap_or}
-use Rattle.std.proofs.lemmas.List.{append-nil}
-use Rattle.std.proofs.lemmas.List.Elements.{All-nil}
+use Rattle.std.proofs.Common.{◌≡◌, ℕ, List, [], ◌∷◌, ◌++◌, map, reverse, sym, ap, ◌∙◌, append_assoc}
+use Rattle.std.proofs.lemmas.List.{append-nil, reverse-append, reverse-reverse}
 use Rattle.xds_bootstrap.specs.declared.bootstrap.AuthorityEntry.{AuthorityEntry}
 use Rattle.call_journal.specs.declared.entry.Entry.{Entry}
-use Rattle.session_lines.specs.Lines.{lines_of}
-use Rattle.report_text.specs.ReportLines.{Shown, end_line, entries_text, head_line, report_text}
-use Rattle.report_turns.specs.TurnLines.{findings_in}
+use Rattle.report_turns.specs.TurnLines.{EntryPlace, Finding, Next, end, entry, findings_in, next_of, with_more}
+use Rattle.report_turns.proofs.TurnLemmas.{found_in_turn}
 use Rattle.xds_history.specs.Setting.{Setting}
-use Rattle.xds_history.specs.Page.{latest_number}
-use Rattle.xds_history.specs.Pages.{pages}
-use Rattle.legal_history.specs.Report.{shown_entries}
-use Rattle.text_law.proofs.AfterLemmas.{onto, onto_reverse, shown_after, shown_next}
-use Rattle.turn_law.specs.TurnLaw.{IsTurn, TurnsOfReport}
-use Rattle.turn_law.proofs.FoundLemmas.{found_after}
-use Rattle.turn_law.proofs.SpelledSession.{all_reverse}
+use Rattle.turn_law.specs.TurnLaw.{TurnsOfReport, place_of}
+use Rattle.turn_law.specs.LinesBehind.{IsReadInTurn, lines_behind}
+use Rattle.turn_law.proofs.LineLemmas.{next_with}
+use Rattle.turn_law.proofs.InTurnProofs.{entries_in_turn}
 
--- what entries show behind a past stands behind what the past shows
-shown_onto : (s : Setting) (past es : List Entry) → shown_entries (pages s (onto es past)) ≡ shown_entries (pages s past) ++ shown_after s past es
-shown_onto s past [] = sym (append-nil (shown_entries (pages s past)))
-shown_onto s past (e ∷ es) =
-    shown_onto s (e ∷ past) es ∙ append_assoc (shown_entries (pages s past)) (shown_next s past e ∷ []) (shown_after s (e ∷ past) es)
+entry_then : (lines more : List (List ℕ)) (place : EntryPlace) → next_of lines ≡ next_with (entry place) more → findings_in lines ≡ entry place ∷ findings_in more
+entry_then lines more place is = found_in_turn lines ∙ ap (λ (next : Next). with_more next.finding (findings_in next.behind)) is
 
-shown_in_turn : (s : Setting) (history : List Entry) → shown_entries (pages s history) ≡ shown_after s [] (reverse history)
-shown_in_turn s history = ap (λ es. shown_entries (pages s es)) (sym (onto_reverse history)) ∙ shown_onto s [] (reverse history)
+end_then : (lines : List (List ℕ)) → (next_of lines).finding ≡ end → findings_in lines ≡ end ∷ []
+end_then lines is = found_in_turn lines ∙ ap (λ (finding : Finding). with_more finding (findings_in (next_of lines).behind)) is
 
--- the first line is passed over
-behind_head : (text : List ℕ) → drop 1 (lines_of (head_line ++ text)) ≡ lines_of text
-unfolding lines_of head_line
-behind_head text = refl
-
-report_behind : (authorities : List AuthorityEntry) (shown : List Shown) (snapshots : ℕ)
-    → drop 1 (lines_of (report_text authorities shown snapshots)) ≡ lines_of (entries_text authorities 1 shown ++ end_line (length shown) snapshots)
-unfolding report_text
-report_behind authorities shown snapshots =
-    ap (λ text. drop 1 (lines_of text)) (append_assoc head_line (entries_text authorities 1 shown) (end_line (length shown) snapshots))
-    ∙ behind_head (entries_text authorities 1 shown ++ end_line (length shown) snapshots)
+-- the entries that are left, the oldest first, and then the end
+turns_left : (s : Setting) (authorities : List AuthorityEntry) (history : List Entry) (es past : List Entry) → IsReadInTurn s authorities history → reverse es ++ past ≡ history
+    → findings_in (lines_behind s authorities (reverse es) past) ≡ map (λ e. entry (place_of e)) es ++ end ∷ []
+turns_left s authorities history [] past read is =
+    end_then (lines_behind s authorities [] past) (ap (λ (all : List Entry). (next_of (lines_behind s authorities [] all)).finding) is ∙ read.last)
+turns_left s authorities history (e ∷ es) past read is =
+    let turned : reverse (e ∷ es) ≡ reverse es ++ e ∷ [] = reverse-append (e ∷ []) es in
+    let left : reverse es ++ e ∷ past ≡ history = sym (append_assoc (reverse es) (e ∷ []) past) ∙ (ap (λ (l : List Entry). l ++ past) (sym turned) ∙ is) in
+    ap (λ (l : List Entry). findings_in (lines_behind s authorities l past)) turned
+    ∙ (entry_then (lines_behind s authorities (reverse es ++ e ∷ []) past) (lines_behind s authorities (reverse es) (e ∷ past)) (place_of e) (read.next (reverse es) e past left)
+    ∙ ap (λ (findings : List Finding). entry (place_of e) ∷ findings) (turns_left s authorities history es (e ∷ past) read left))
 
 pub turns_of_report : TurnsOfReport
 turns_of_report s authorities history are =
-    let shown : List Shown = shown_entries (pages s history) in
-    let snapshots : ℕ = unwrap_or (latest_number (pages s history)) 0 in
-    ap findings_in (report_behind authorities shown snapshots)
-    ∙ (ap (λ entries. findings_in (lines_of (entries_text authorities 1 entries ++ end_line (length shown) snapshots))) (shown_in_turn s history)
-    ∙ found_after authorities s [] (reverse history) 1 (length shown) snapshots (All-nil IsTurn) (all_reverse IsTurn history are))
+    let read : IsReadInTurn s authorities history = entries_in_turn s authorities history are in
+    let all : reverse (reverse history) ≡ history = reverse-reverse history in
+    ap findings_in (sym read.first)
+    ∙ (ap (λ (l : List Entry). findings_in (lines_behind s authorities l [])) (sym all)
+    ∙ turns_left s authorities history (reverse history) [] read (append-nil (reverse (reverse history)) ∙ all))

@@ -1,1 +1,2 @@
 pub mod TurnLaw
+pub mod LinesBehind

@@ -1,5 +1,12 @@
 //! The laws of what is read from a report, each the clause of a function without a body.
+ghost use Rattle.turn_law.specs.LinesBehind.{EntriesInTurn};
 ghost use Rattle.turn_law.specs.TurnLaw.{LegalAreTurns, TurnsOfReport};
+
+/// The entries of a history are read from its report one after another. The lines behind the first one of each begin with those
+/// of the patterns that it tells as refused.
+pub fn entries_in_turn()
+    ensures { EntriesInTurn }
+{}
 
 /// The turns that are read from the report of a history are those of its entries, in their order.
 #[tactic(auto, using(crate::proofs::TurnProofs::turns_of_report))]
