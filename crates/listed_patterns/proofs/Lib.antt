@@ -1,0 +1,6 @@
+mod BeginLemmas
+mod EscapeLemmas
+mod LineLemmas
+mod ListedProofs
+mod ListedRows
+mod ListingLemmas

@@ -1,0 +1,2 @@
+pub mod ListedPatterns
+pub mod ListedLaws
