@@ -4,6 +4,7 @@ use denote.Param.SendFields.{declared_send}
 use Rattle.std.proofs.Crossing.{crosses}
 use Rattle.std.proofs.MapsCrossing.{crosses as maps}
 use Rattle.channel_crossing.proofs.XdsConfig.{config_send, config_sync}
+use Rattle.config_assembly.proofs.shared_keys.SharedKeys.TheSendSync.{the_send as shared_keys_send}
 use Rattle.xc_base.proofs.list.List.TheSendSync.{the_send as list_send}
 use Rattle.xc_base.proofs.names.Key.TheSendSync.{the_send as key_send}
 use Rattle.xc_base.proofs.shared.Shared.TheSendSync.{the_send as shared_send}
@@ -18,5 +19,5 @@ kept_send = declared_send Kept.the_type (search (sendable, crosses, maps, list_s
 
 pub deps_send : IsSend Deps.the_row
 deps_send =
-    let inside : IsSend DepsInside.the_row = declared_send DepsInside.the_type (search (sendable, crosses, target_send, list_send, key_send, kept_send, shared_send, config_send, config_sync) depth 30 steps 3000000) in
+    let inside : IsSend DepsInside.the_row = declared_send DepsInside.the_type (search (sendable, crosses, target_send, shared_keys_send, kept_send, shared_send, config_send, config_sync) depth 30 steps 3000000) in
     search (sendable, inside) depth 6 steps 300000
