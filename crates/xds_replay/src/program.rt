@@ -28,6 +28,7 @@ use session_input::{generated_input, session_in};
 use session_lines::Session;
 use session_player::Played;
 use std::alloc::Global;
+use std::mem;
 use std::sync::Wait;
 use std::thread::Threads;
 use threaded_player::play_on_threads;
@@ -74,6 +75,13 @@ fn total<K: Sink>(
     write_status(write_totals(alloc, rounds, &played.journal, &played.history, sink))
 }
 
+/// Leaves a session and what was played of it to the end of the process, which gives all memory back at once. Both stand in a
+/// great many pieces, and to give back each by itself takes a good part of the time of a run.
+fn leave(session: Session, played: Played) {
+    mem::forget(session);
+    mem::forget(played);
+}
+
 /// Reads a session from the source, plays it, and writes its report to the sink.
 fn replay<S: Source, K: Sink, P: Patterns, G: Gate + Sync, R: Threads + Wait + Sync>(
     rt: &R,
@@ -106,7 +114,11 @@ fn replay<S: Source, K: Sink, P: Patterns, G: Gate + Sync, R: Threads + Wait + S
         Err(fault) => return status_of(fault),
     };
     match play_on_threads(rt, alloc, &session, gate, patterns) {
-        Ok(played) => report(alloc, &session, &played, sink),
+        Ok(played) => {
+            let status = report(alloc, &session, &played, sink);
+            leave(session, played);
+            status
+        }
         Err(_) => Status::Memory,
     }
 }
@@ -144,7 +156,11 @@ fn load<K: Sink, P: Patterns, G: Gate + Sync, R: Threads + Wait + Sync>(
         Err(_) => return Status::Memory,
     };
     match play_on_threads(rt, alloc, &session, gate, patterns) {
-        Ok(played) => total(alloc, rounds, &session, &played, sink),
+        Ok(played) => {
+            let status = total(alloc, rounds, &session, &played, sink);
+            leave(session, played);
+            status
+        }
         Err(_) => Status::Memory,
     }
 }
@@ -152,7 +168,8 @@ fn load<K: Sink, P: Patterns, G: Gate + Sync, R: Threads + Wait + Sync>(
 /// Does what the words ask for: `run` reads a session from the source, plays it, and writes its report to the sink; `gen N`
 /// writes the generated session of N rounds; `load N` plays that session and writes its totals. A session is played by
 /// threads: the driver by this one, and each caller by one of its own, or by this one, in the order of the file, where none
-/// can be started. The gate is told of calls and lines on the way. The words come without the program's name.
+/// can be started. The gate is told of calls and lines on the way. The words come without the program's name. A session and
+/// what was played of it stay in memory until the process ends.
 ///
 /// `Words` comes where the words are none of these commands, and `Session` where the bytes are no session, with the first
 /// fault. A source or a sink that tells nothing of its bytes leaves open what was read or written.

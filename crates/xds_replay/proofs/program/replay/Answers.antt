@@ -17,13 +17,13 @@ returns-in-Err-session_in-clause-complete g c = λ _ _.
 
 pub returns-in-Ok-play_on_threads-clause-done : goal.returns-in-Ok-play_on_threads-clause-done
 returns-in-Ok-play_on_threads-clause-done g c = λ is.
-    reports_of (g.S.Source.left c.args.source.now) c.deref.result.now c.in-Ok-session_in.session c.in-Ok-play_on_threads.played.journal.entries (g.P.Patterns.refused c.args.patterns.now) (g.P.Patterns.refused c.play_on_threads.new.patterns) (Appends (g.K.Sink.held c.args.sink.now) (g.K.Sink.held c.report.new.sink))
-    (rw c.deref.ensures.value c.in-Ok.ensures.bytes) c.in-Ok-session_in.ensures.gives (record { legal = c.in-Ok-play_on_threads.ensures.legal; refused = c.in-Ok-play_on_threads.ensures.refused }) (c.report.ensures.done is)
+    reports_of (g.S.Source.left c.args.source.now) c.deref.result.now c.in-Ok-session_in.session c.in-Ok-play_on_threads.played.journal.entries (g.P.Patterns.refused c.args.patterns.now) (g.P.Patterns.refused c.play_on_threads.new.patterns) (Appends (g.K.Sink.held c.args.sink.now) (g.K.Sink.held c.report-status.new.sink))
+    (rw c.deref.ensures.value c.in-Ok.ensures.bytes) c.in-Ok-session_in.ensures.gives (record { legal = c.in-Ok-play_on_threads.ensures.legal; refused = c.in-Ok-play_on_threads.ensures.refused }) (c.report-status.ensures.done is)
 
 pub returns-in-Ok-play_on_threads-clause-begun : goal.returns-in-Ok-play_on_threads-clause-begun
 returns-in-Ok-play_on_threads-clause-begun g c = λ is.
-    begun_of (g.S.Source.left c.args.source.now) (g.K.Sink.held c.args.sink.now) (g.K.Sink.held c.report.new.sink) c.deref.result.now c.in-Ok-session_in.session c.in-Ok-play_on_threads.played.journal.entries (g.P.Patterns.refused c.args.patterns.now) (g.P.Patterns.refused c.play_on_threads.new.patterns)
-    (rw c.deref.ensures.value c.in-Ok.ensures.bytes) c.in-Ok-session_in.ensures.gives (record { legal = c.in-Ok-play_on_threads.ensures.legal; refused = c.in-Ok-play_on_threads.ensures.refused }) (c.report.ensures.begun is)
+    begun_of (g.S.Source.left c.args.source.now) (g.K.Sink.held c.args.sink.now) (g.K.Sink.held c.report-status.new.sink) c.deref.result.now c.in-Ok-session_in.session c.in-Ok-play_on_threads.played.journal.entries (g.P.Patterns.refused c.args.patterns.now) (g.P.Patterns.refused c.play_on_threads.new.patterns)
+    (rw c.deref.ensures.value c.in-Ok.ensures.bytes) c.in-Ok-session_in.ensures.gives (record { legal = c.in-Ok-play_on_threads.ensures.legal; refused = c.in-Ok-play_on_threads.ensures.refused }) (c.report-status.ensures.begun is)
 
 pub returns-in-Ok-play_on_threads-clause-refused : goal.returns-in-Ok-play_on_threads-clause-refused
 returns-in-Ok-play_on_threads-clause-refused g c = λ _.
