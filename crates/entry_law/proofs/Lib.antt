@@ -1,0 +1,2 @@
+pub mod StepProofs
+pub mod EntryProofs
