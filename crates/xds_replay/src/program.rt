@@ -76,7 +76,7 @@ fn total<K: Sink>(
 }
 
 /// Leaves a session and what was played of it to the end of the process, which gives all memory back at once. Both stand in a
-/// great many pieces, and to give back each by itself takes a good part of the time of a run.
+/// great many pieces, and each would be given back by itself.
 fn leave(session: Session, played: Played) {
     mem::forget(session);
     mem::forget(played);
