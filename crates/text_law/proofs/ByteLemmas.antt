@@ -1,10 +1,10 @@
--- Texts that are UTF-8 are texts of bytes.
+-- What the wire's reader takes as a text is UTF-8, and what is UTF-8 is a text of bytes.
 use Rattle.std.proofs.Common.{◌≡◌, ℕ, zero, suc, ◌+◌, ◌/◌, ◌%◌, ◌<◌, ◌≤◌, List, [], ◌∷◌, ◌++◌, length, take, Bool, true, false, ltb, cond, ◌&&◌, refl, subst, ⊎_elim, arith}
 use lib.Utf8.{encode, encodes, scalar, scalars, scalar_cases}
 use lib.Seq.{take-length}
 use Rattle.std.proofs.lemmas.Bool.{cond_both}
 use Rattle.std.proofs.lemmas.Bool.Decides.{nat_tests}
-use Rattle.std.proofs.lemmas.Str.{IsUtf8-from_is_utf8}
+use Rattle.std.proofs.lemmas.Str.{IsUtf8-from_is_utf8, IsUtf8-nil}
 use Rattle.std.specs.Str.{IsUtf8, is_utf8}
 use Rattle.std.specs.Str.Lossy.{utf8_valid_len, valid_len_up_to}
 use Rattle.proto_wire.specs.FieldValues.{is_text}
@@ -35,7 +35,7 @@ encodes_bytes (c ∷ cs) h =
     let both = first_scalar (scalar c) (scalars cs) h in
     bytes_append (encode c) (encodes cs) (encode_bytes c (scalar_low c both.0)) (encodes_bytes cs both.1)
 
-utf8_bytes : (bs : List ℕ) → IsUtf8 bs → AreBytes bs
+pub utf8_bytes : (bs : List ℕ) → IsUtf8 bs → AreBytes bs
 utf8_bytes bs h = subst AreBytes h.1.1 (encodes_bytes h.0 h.1.0)
 
 valid_few : (bs : List ℕ) (n : ℕ) → valid_len_up_to bs n ≤ n
@@ -48,14 +48,14 @@ valid_by : (b : Bool) (bs : List ℕ) (n : ℕ) → is_utf8 (take (suc n) bs) �
 valid_by true bs n is h = is
 valid_by false bs n is h = absurd (let less = valid_few bs n in omega (arith, h, less))
 
-valid_utf8 : (bs : List ℕ) → valid_len_up_to bs (length bs) ≡ length bs → AreBytes bs
-valid_utf8 [] h = tt
+valid_utf8 : (bs : List ℕ) → valid_len_up_to bs (length bs) ≡ length bs → IsUtf8 bs
+valid_utf8 [] h = IsUtf8-nil
 valid_utf8 (c ∷ cs) h =
     let is : is_utf8 (take (suc (length cs)) (c ∷ cs)) ≡ true = valid_by (is_utf8 (take (suc (length cs)) (c ∷ cs))) (c ∷ cs) (length cs) refl h in
     let all : take (length (c ∷ cs)) (c ∷ cs) ≡ c ∷ cs = take-length (c ∷ cs) in
-    utf8_bytes (c ∷ cs) (IsUtf8-from_is_utf8 (c ∷ cs) (subst (λ (l : List ℕ). is_utf8 l ≡ true) all is))
+    IsUtf8-from_is_utf8 (c ∷ cs) (subst (λ (l : List ℕ). is_utf8 l ≡ true) all is)
 
 -- a text that the wire's reader takes
-pub text_bytes : (bs : List ℕ) → is_text bs ≡ true → AreBytes bs
+pub text_utf8 : (bs : List ℕ) → is_text bs ≡ true → IsUtf8 bs
 unfolding utf8_valid_len
-text_bytes bs h = valid_utf8 bs (grind (arith, nat_tests, h))
+text_utf8 bs h = valid_utf8 bs (grind (arith, nat_tests, h))

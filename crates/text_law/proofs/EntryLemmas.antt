@@ -1,6 +1,8 @@
 -- What is read from the text of one entry: its actor, and the patterns that were refused.
-use Rattle.std.proofs.Common.{◌≡◌, ℕ, ◌<◌, ◌^◌, List, [], ◌∷◌, ◌++◌, true, false, Option, Some, None, codes, get_or, refl, sym, ap, ◌∙◌, arith, append_assoc}
+use Rattle.std.proofs.Common.{◌≡◌, ℕ, ◌<◌, ◌^◌, List, [], ◌∷◌, ◌++◌, true, false, All, Option, Some, None, codes, get_or, refl, sym, ap, ◌∙◌, arith, append_assoc}
 use Rattle.std.proofs.lemmas.List.{append_cancel_left}
+use Rattle.std.proofs.lemmas.List.Elements.{All-head, All-tail}
+use Rattle.std.specs.Str.{IsUtf8}
 use Rattle.std.specs.Fmt.{decimal}
 use Rattle.std.proofs.lemmas.Fmt.{decimal_injective}
 use Rattle.xc_base.specs.declared.names.Key.{Key}
@@ -21,7 +23,7 @@ use Rattle.report_parts.specs.RequestText.{pattern_line, request_line}
 use Rattle.report_parts.specs.Snapshots.{snapshot_line, snapshot_lines}
 use Rattle.report_parts.specs.Callers.{caller_event_text, caller_line, caller_reply_text}
 use Rattle.report_text.specs.EntryText.{entry_line, entry_lines, more_lines, pattern_lines, request_lines, reply_lines, what_line}
-use Rattle.text_law.proofs.Texts.{lacks, AllBytes, begins_pattern}
+use Rattle.text_law.proofs.Texts.{lacks, begins_pattern}
 use Rattle.text_law.proofs.TextLemmas.{cut_at, decimal_lacks, escaped_injective, escaped_no_feed, lacks-append}
 
 -- ---- refused patterns
@@ -41,7 +43,7 @@ not_pattern p ps t v other is =
     absurd (cc absent)
 
 -- the patterns before a text that doesn't begin with one
-pub patterns_read : (ps qs : List (List ℕ)) (u v : List ℕ) → AllBytes ps → AllBytes qs → begins_pattern u ≡ false → begins_pattern v ≡ false
+pub patterns_read : (ps qs : List (List ℕ)) (u v : List ℕ) → All IsUtf8 ps → All IsUtf8 qs → begins_pattern u ≡ false → begins_pattern v ≡ false
     → pattern_lines ps ++ u ≡ pattern_lines qs ++ v → ps ≡ qs
 unfolding pattern_lines
 patterns_read [] [] u v h k no_u no_v is = refl
@@ -50,8 +52,8 @@ patterns_read (p ∷ ps) [] u v h k no_u no_v is = absurd (not_pattern p ps u v 
 patterns_read (p ∷ ps) (q ∷ qs) u v h k no_u no_v is =
     let both = append_cancel_left (codes "  pat ") _ _ (sym (more_first p ps u) ∙ (is ∙ more_first q qs v)) in
     let parts = cut_at 10 (escaped p) (escaped q) (pattern_lines ps ++ u) (pattern_lines qs ++ v) (escaped_no_feed p) (escaped_no_feed q) both in
-    let first : p ≡ q = escaped_injective p q h.0 k.0 parts.0 in
-    let more : ps ≡ qs = patterns_read ps qs u v h.1 k.1 no_u no_v parts.1 in
+    let first : p ≡ q = escaped_injective p q (All-head IsUtf8 p ps h) (All-head IsUtf8 q qs k) parts.0 in
+    let more : ps ≡ qs = patterns_read ps qs u v (All-tail IsUtf8 p ps h) (All-tail IsUtf8 q qs k) no_u no_v parts.1 in
     cc (first, more)
 
 -- ---- what stands behind the patterns
@@ -132,7 +134,7 @@ reply_parts a s r t =
     append_assoc (pattern_lines r.refused ++ request_lines a r.sent) (snapshot_lines s) t ∙ append_assoc (pattern_lines r.refused) (request_lines a r.sent) (snapshot_lines s ++ t)
 
 -- two replies to one event, in one text, refuse the same patterns
-pub refused_read : (a : List AuthorityEntry) (s z : Option Snapshot) (event : DriverEvent) (r q : DriverReply) (u v : List ℕ) → AllBytes r.refused → AllBytes q.refused
+pub refused_read : (a : List AuthorityEntry) (s z : Option Snapshot) (event : DriverEvent) (r q : DriverReply) (u v : List ℕ) → All IsUtf8 r.refused → All IsUtf8 q.refused
     → begins_pattern u ≡ false → begins_pattern v ≡ false
     → driver_line a event r ++ (reply_lines a s r ++ u) ≡ driver_line a event q ++ (reply_lines a z q ++ v) → r.refused ≡ q.refused
 refused_read a s z event r q u v h k no_u no_v is =

@@ -1,6 +1,7 @@
 -- One session and one text have one legal history.
-use Rattle.std.proofs.Common.{◌≡◌, ℕ, ◌+◌, ◌<◌, ◌≤◌, ◌^◌, List, [], ◌∷◌, ◌++◌, map, reverse, Bool, Option, Some, refl, sym, ap, ◌∙◌, subst, append_assoc, arith, lt_of_le_of_lt}
-use Rattle.std.proofs.lemmas.List.{append_cancel_left, reverse-append, reverse-reverse}
+use Rattle.std.proofs.Common.{◌≡◌, ℕ, ◌+◌, ◌<◌, ◌≤◌, ◌^◌, List, [], ◌∷◌, ◌++◌, map, reverse, Bool, All, Option, Some, refl, sym, ap, ◌∙◌, subst, append_assoc, arith, lt_of_le_of_lt}
+use Rattle.std.proofs.lemmas.List.{append_cancel_left, reverse-reverse}
+use Rattle.std.specs.Str.{IsUtf8}
 use Rattle.xds_bootstrap.specs.declared.bootstrap.AuthorityEntry.{AuthorityEntry}
 use Rattle.call_journal.specs.declared.event.CallerEvent.{CallerEvent}
 use Rattle.call_journal.specs.declared.event.DriverEvent.{DriverEvent}
@@ -15,22 +16,26 @@ use Rattle.report_text.specs.ReportLines.{end_line}
 use Rattle.report_parts.specs.Driver.{driver_line}
 use Rattle.report_text.specs.EntryText.{reply_lines}
 use Rattle.xds_history.specs.Setting.{Setting, setting_of}
+use Rattle.xds_history.specs.Responses.{refused_in}
 use Rattle.xds_history.specs.Right.{Right}
 use Rattle.xds_history.specs.HistoryLaws.{Asked, asked_of}
 use Rattle.legal_history.specs.Legal.{AreStarted, IsHistoryOf, is_read}
 use Rattle.legal_history.specs.Report.{report}
 use Rattle.xds_history.proofs.LawProofs.{one_reply}
-use Rattle.text_law.proofs.Texts.{AllRefuseBytes}
 use Rattle.text_law.specs.TextLaw.{OneText}
 use Rattle.text_law.proofs.EntryLemmas.{callers_read, letters_differ, refused_read, tail_of, tails_read}
 use Rattle.text_law.proofs.ActorLemmas.{actor_few, caller_is_other, caller_next, driver_is_first, driver_next}
 use Rattle.text_law.proofs.ListedLemmas.{Same}
-use Rattle.text_law.proofs.RefusedLemmas.{right_bytes}
+use Rattle.text_law.proofs.RefusedLemmas.{refused_are_texts}
 use Rattle.text_law.proofs.SessionLemmas.{read_few}
 use Rattle.text_law.proofs.AfterLemmas.{end_differs, onto, onto_reverse, report_entries, rest_first, shown_next, text_after, text_cut, text_end}
 
 abbrev entry_of : ℕ → ℕ → What → Entry
 entry_of actor line what = record { actor = actor; line = line; what = what }
+
+-- the pattern texts that right histories of a setting refuse are UTF-8
+abbrev RefusesTexts : Setting → Type 0
+RefusesTexts s = (e : Entry) (past : List Entry) → Right s (e ∷ past) → All IsUtf8 (refused_in e.what)
 
 -- ---- what is left of a history behind a past: `before` has the same entries with the oldest first
 
@@ -38,13 +43,12 @@ record Rest (readable : List ℕ → Bool) (callers : ℕ) (lines : List Line) (
   right : Right s (onto es past)
   listed : AreListed readable callers lines (before ++ es)
   started : (c : ℕ) → AreStarted (entries_by c (before ++ es))
-  bytes : AllRefuseBytes es
 
 right_past : (s : Setting) (es past : List Entry) → Right s (onto es past) → Right s past
 right_past s [] past h = h
 right_past s (e ∷ es) past h = (right_past s es (e ∷ past) h).1
 
-module _ (readable : List ℕ → Bool) (callers : ℕ) (lines : List Line) (s : Setting) (a : List AuthorityEntry) (few : callers < 2 ^ 64) where
+module _ (readable : List ℕ → Bool) (callers : ℕ) (lines : List Line) (s : Setting) (a : List AuthorityEntry) (few : callers < 2 ^ 64) (texts : RefusesTexts s) where
   abbrev At : List Entry → List Entry → List Entry → Type 0
   At before past es = Rest readable callers lines s before past es
 
@@ -55,7 +59,6 @@ module _ (readable : List ℕ → Bool) (callers : ℕ) (lines : List Line) (s :
         right = h.right;
         listed = subst (λ (l : List Entry). AreListed readable callers lines l) same h.listed;
         started = λ c. subst (λ (l : List Entry). AreStarted (entries_by c l)) same (h.started c);
-        bytes = h.bytes.1;
       }
 
   -- ---- the next entry
@@ -80,7 +83,8 @@ module _ (readable : List ℕ → Bool) (callers : ℕ) (lines : List Line) (s :
       let event_is : event ≡ called = cc events in
       let text : driver_line a event r ++ (reply_lines a (shown_next s past e).snapshot r ++ u) ≡ driver_line a event q ++ (reply_lines a (shown_next s past f).snapshot q ++ v) =
       subst (λ (z : DriverEvent). driver_line a event r ++ (reply_lines a (shown_next s past e).snapshot r ++ u) ≡ driver_line a z q ++ (reply_lines a (shown_next s past f).snapshot q ++ v)) (sym event_is) is in
-      let refused : r.refused ≡ q.refused = refused_read a (shown_next s past e).snapshot (shown_next s past f).snapshot event r q u v h.bytes.0 g.bytes.0
+      let refused : r.refused ≡ q.refused = refused_read a (shown_next s past e).snapshot (shown_next s past f).snapshot event r q u v
+      (texts e past (right_past s es (e ∷ past) h.right)) (texts f past (right_past s fs (f ∷ past) g.right))
       (rest_first a s (e ∷ past) (n + 1) es i j) (rest_first a s (f ∷ past) (n + 1) fs k o) text in
       cc (first, second, line, event_is, refused)
 
@@ -146,29 +150,19 @@ module _ (readable : List ℕ → Bool) (callers : ℕ) (lines : List Line) (s :
 
 -- ---- histories
 
-bytes_append : (xs ys : List Entry) → AllRefuseBytes xs → AllRefuseBytes ys → AllRefuseBytes (xs ++ ys)
-bytes_append [] ys h k = k
-bytes_append (x ∷ xs) ys h k = (h.0, bytes_append xs ys h.1 k)
-
-bytes_reverse : (xs : List Entry) → AllRefuseBytes xs → AllRefuseBytes (reverse xs)
-bytes_reverse [] h = tt
-bytes_reverse (x ∷ xs) h = subst AllRefuseBytes (sym (reverse-append (x ∷ []) xs)) (bytes_append (reverse xs) (x ∷ []) (bytes_reverse xs h.1) (h.0, tt))
-
-rest_of : (session : Session) (s : Setting) (history : List Entry) → AllRefuseBytes history → IsHistoryOf session s history
-    → Rest (is_read s) session.callers session.lines s [] [] (reverse history)
-rest_of session s history bytes h = record {
+rest_of : (session : Session) (s : Setting) (history : List Entry) → IsHistoryOf session s history → Rest (is_read s) session.callers session.lines s [] [] (reverse history)
+rest_of session s history h = record {
   right = subst (Right s) (sym (onto_reverse history)) h.right;
   listed = h.listed;
   started = h.started;
-  bytes = bytes_reverse history bytes;
 }
 
-one_history : (session : Session) (s : Setting) (a : List AuthorityEntry) (one other : List Entry) → session.callers < 2 ^ 64 → AllRefuseBytes one → AllRefuseBytes other
+one_history : (session : Session) (s : Setting) (a : List AuthorityEntry) (one other : List Entry) → session.callers < 2 ^ 64 → RefusesTexts s
     → IsHistoryOf session s one → IsHistoryOf session s other → report s a one ≡ report s a other → one ≡ other
-one_history session s a one other few bytes more h k is =
-    let texts : report s a (onto (reverse one) []) ≡ report s a (onto (reverse other) []) = ap (report s a) (onto_reverse one) ∙ (is ∙ sym (ap (report s a) (onto_reverse other))) in
-    let entries = report_entries a s (reverse one) (reverse other) _ _ texts in
-    let same : reverse one ≡ reverse other = one_rest (is_read s) session.callers session.lines s a few [] [] (reverse one) (reverse other) 1 _ _ _ _ (rest_of session s one bytes h) (rest_of session s other more k) entries in
+one_history session s a one other few texts h k is =
+    let reports : report s a (onto (reverse one) []) ≡ report s a (onto (reverse other) []) = ap (report s a) (onto_reverse one) ∙ (is ∙ sym (ap (report s a) (onto_reverse other))) in
+    let entries = report_entries a s (reverse one) (reverse other) _ _ reports in
+    let same : reverse one ≡ reverse other = one_rest (is_read s) session.callers session.lines s a few texts [] [] (reverse one) (reverse other) 1 _ _ _ _ (rest_of session s one h) (rest_of session s other k) entries in
     sym (reverse-reverse one) ∙ (ap reverse same ∙ reverse-reverse other)
 
 small : (n : ℕ) → n ≤ 16 → n < 2 ^ 64
@@ -177,4 +171,4 @@ small n few = omega (arith, few)
 pub one_text : OneText
 one_text bytes session one other read h k is =
     one_history session (setting_of session.boot session.target) session.boot.authorities one other (small session.callers (read_few bytes session read))
-    (right_bytes session.boot session.target one h.right) (right_bytes session.boot session.target other k.right) h k is
+    (refused_are_texts session.boot session.target) h k is

@@ -1,6 +1,8 @@
--- The pattern texts that a right history refuses are of bytes.
-use Rattle.std.proofs.Common.{◌≡◌, ℕ, List, [], ◌∷◌, map, filter_map, Bool, true, false, cond, Option, Some, None, Result, Ok, Err, refl, sym, subst}
+-- The pattern texts that an entry of a right history refuses are UTF-8.
+use Rattle.std.proofs.Common.{◌≡◌, ℕ, List, [], ◌∷◌, map, filter_map, Bool, true, false, All, cond, Option, Some, None, Result, Ok, Err, refl, sym, subst}
 use Rattle.std.specs.List.{cons_option}
+use Rattle.std.specs.Str.{IsUtf8}
+use Rattle.std.proofs.lemmas.List.Elements.{All-cons, All-head, All-nil, All-tail}
 use Rattle.xc_base.specs.declared.names.Kind.{Kind}
 use Rattle.xc_base.specs.declared.reason.Reason.{Reason}
 use Rattle.proto_discovery.specs.declared.any.AnyValue.{AnyValue}
@@ -31,14 +33,13 @@ use Rattle.call_journal.specs.declared.entry.What.{What}
 use Rattle.xds_history.specs.Setting.{setting_of}
 use Rattle.xds_history.specs.Words.{among}
 use Rattle.resource_check.specs.Deliveries.{once, refused_text}
-use Rattle.xds_history.specs.Responses.{stopped_at}
+use Rattle.xds_history.specs.Responses.{refused_in, stopped_at}
 use Rattle.xds_history.specs.declared.responses.Told.{Told}
-use Rattle.xds_history.specs.Right.{IsReply, Right}
+use Rattle.xds_history.specs.Right.{IsReply}
 use Rattle.xds_history.specs.Pages.{pages}
-use Rattle.text_law.proofs.Texts.{AllBytes, AreBytes}
-use Rattle.text_law.proofs.Texts.{AllRefuseBytes, RefusesBytes}
-use Rattle.text_law.proofs.StopLemmas.{Maybe, RoutesBytes, Stops, StopsAt, stops_assignment, stops_because, stops_cluster, stops_demand, stops_named, stops_ok, stops_readable, stops_then, stops_value}
-use Rattle.text_law.proofs.ReadLemmas.{ManagerBytes, ManagerOneBytes, reads_manager, reads_routes}
+use Rattle.text_law.specs.RefusedTexts.{RefusedAreTexts}
+use Rattle.text_law.proofs.StopLemmas.{Maybe, RoutesUtf8, Stops, StopsAt, stops_assignment, stops_because, stops_cluster, stops_demand, stops_named, stops_ok, stops_readable, stops_then, stops_value}
+use Rattle.text_law.proofs.ReadLemmas.{ManagerUtf8, ManagerOneUtf8, reads_manager, reads_routes}
 
 -- ---- what steps find
 
@@ -78,10 +79,10 @@ stops_manager : (raw : RawListener) → Stops (manager_in raw)
 unfolding manager_in
 stops_manager raw = search (stops_then, stops_any, stops_demand, stops_readable) depth 25
 
-manager_found : (bytes : List ℕ) → Finds ManagerBytes (readable (manager_of bytes))
-manager_found bytes = finds_readable ManagerBytes (manager_of bytes) (record { says = (reads_manager bytes).says })
+manager_found : (bytes : List ℕ) → Finds ManagerUtf8 (readable (manager_of bytes))
+manager_found bytes = finds_readable ManagerUtf8 (manager_of bytes) (record { says = (reads_manager bytes).says })
 
-finds_manager : (raw : RawListener) → Finds ManagerBytes (manager_in raw)
+finds_manager : (raw : RawListener) → Finds ManagerUtf8 (manager_in raw)
 unfolding manager_in
 finds_manager raw = search (finds_past, manager_found) depth 25
 
@@ -89,7 +90,7 @@ stops_named_routes : (rds : RawRds) → Stops (named_routes rds)
 unfolding named_routes
 stops_named_routes rds = search (stops_then, stops_demand, stops_named, stops_ok) depth 25
 
-stops_from : (refuses : List ℕ → Bool) (one : Option RawManagerOne) → ManagerOneBytes one → Stops (routes_of refuses one)
+stops_from : (refuses : List ℕ → Bool) (one : Option RawManagerOne) → ManagerOneUtf8 one → Stops (routes_of refuses one)
 stops_from refuses None h = stops_because Reason.NoRoutes
 stops_from refuses (Some (Rds rds)) h = stops_named_routes rds
 stops_from refuses (Some (RouteConfig message)) h = search (h, stops_then, stops_value, stops_ok) depth 25
@@ -97,30 +98,30 @@ stops_from refuses (Some (RouteConfig message)) h = search (h, stops_then, stops
 stops_listener : (refuses : List ℕ → Bool) (name : List ℕ) (message : RawListener) → Stops (listener_value refuses name message)
 unfolding listener_value
 stops_listener refuses name message =
-    stops_found ManagerBytes (manager_in message) _ (stops_manager message) (finds_manager message) (λ manager h. search (h, stops_then, stops_from, stops_ok) depth 25)
+    stops_found ManagerUtf8 (manager_in message) _ (stops_manager message) (finds_manager message) (λ manager h. search (h, stops_then, stops_from, stops_ok) depth 25)
 
 -- ---- resources
 
-abbrev RawBytes : Raw → Type 0
-RawBytes (raw.Route message) = RoutesBytes message
-RawBytes _ = Unit {0}
+abbrev RawUtf8 : Raw → Type 0
+RawUtf8 (raw.Route message) = RoutesUtf8 message
+RawUtf8 _ = Unit {0}
 
-stops_raw : (refuses : List ℕ → Bool) (name : List ℕ) (message : Raw) → RawBytes message → Stops (value_of refuses name message)
+stops_raw : (refuses : List ℕ → Bool) (name : List ℕ) (message : Raw) → RawUtf8 message → Stops (value_of refuses name message)
 stops_raw refuses name (raw.Listener message) h = search (stops_then, stops_listener, stops_ok) depth 25
 stops_raw refuses name (raw.Route message) h = search (h, stops_then, stops_value, stops_ok) depth 25
 stops_raw refuses name (raw.Cluster message) h = search (stops_then, stops_cluster, stops_ok) depth 25
 stops_raw refuses name (raw.Endpoint message) h = search (stops_then, stops_assignment, stops_ok) depth 25
 
-finds_raw : (kind : Kind) (bytes : List ℕ) → Finds RawBytes (read_raw kind bytes)
-finds_raw Kind.Listener bytes = finds_past RawBytes (listener_of bytes) (λ message. Ok (raw.Listener message)) (λ message. finds_ok RawBytes (raw.Listener message) tt)
-finds_raw Kind.Route bytes = finds_then RoutesBytes RawBytes (routes_read bytes) (λ message. Ok (raw.Route message)) (record { says = (reads_routes bytes).says }) (λ message h. finds_ok RawBytes (raw.Route message) h)
-finds_raw Kind.Cluster bytes = finds_past RawBytes (cluster_of bytes) (λ message. Ok (raw.Cluster message)) (λ message. finds_ok RawBytes (raw.Cluster message) tt)
-finds_raw Kind.Endpoint bytes = finds_past RawBytes (assignment_of bytes) (λ message. Ok (raw.Endpoint message)) (λ message. finds_ok RawBytes (raw.Endpoint message) tt)
+finds_raw : (kind : Kind) (bytes : List ℕ) → Finds RawUtf8 (read_raw kind bytes)
+finds_raw Kind.Listener bytes = finds_past RawUtf8 (listener_of bytes) (λ message. Ok (raw.Listener message)) (λ message. finds_ok RawUtf8 (raw.Listener message) tt)
+finds_raw Kind.Route bytes = finds_then RoutesUtf8 RawUtf8 (routes_read bytes) (λ message. Ok (raw.Route message)) (record { says = (reads_routes bytes).says }) (λ message h. finds_ok RawUtf8 (raw.Route message) h)
+finds_raw Kind.Cluster bytes = finds_past RawUtf8 (cluster_of bytes) (λ message. Ok (raw.Cluster message)) (λ message. finds_ok RawUtf8 (raw.Cluster message) tt)
+finds_raw Kind.Endpoint bytes = finds_past RawUtf8 (assignment_of bytes) (λ message. Ok (raw.Endpoint message)) (λ message. finds_ok RawUtf8 (raw.Endpoint message) tt)
 
-raw_found : (kind : Kind) (bytes : List ℕ) → Finds RawBytes (readable (read_raw kind bytes))
-raw_found kind bytes = finds_readable RawBytes (read_raw kind bytes) (finds_raw kind bytes)
+raw_found : (kind : Kind) (bytes : List ℕ) → Finds RawUtf8 (readable (read_raw kind bytes))
+raw_found kind bytes = finds_readable RawUtf8 (read_raw kind bytes) (finds_raw kind bytes)
 
-finds_message : (kind : Kind) (any : AnyValue) → Finds RawBytes (message_of kind any)
+finds_message : (kind : Kind) (any : AnyValue) → Finds RawUtf8 (message_of kind any)
 unfolding message_of
 finds_message kind any = search (finds_past, raw_found) depth 25
 
@@ -156,16 +157,16 @@ finds_under : {A : Type 0} (P : A → Type 0) (name : Option (List ℕ)) (r : Re
 finds_under P name (Ok x) h = finds_ok P x (h.says x refl)
 finds_under P name (Err stop) h = record { says = λ y is. absurd (cc is) }
 
-abbrev FoundBytes : Found → Type 0
-FoundBytes found = RawBytes found.raw
+abbrev FoundUtf8 : Found → Type 0
+FoundUtf8 found = RawUtf8 found.raw
 
-message_then : {B : Type 0} (P : B → Type 0) (name : Option (List ℕ)) (kind : Kind) (any : AnyValue) (f : Raw → Result B Refusal) → ((x : Raw) → RawBytes x → Finds P (f x)) → Finds P (under name (message_of kind any) >>= f)
-message_then P name kind any f k = finds_then RawBytes P (under name (message_of kind any)) f (finds_under RawBytes name (message_of kind any) (finds_message kind any)) k
+message_then : {B : Type 0} (P : B → Type 0) (name : Option (List ℕ)) (kind : Kind) (any : AnyValue) (f : Raw → Result B Refusal) → ((x : Raw) → RawUtf8 x → Finds P (f x)) → Finds P (under name (message_of kind any) >>= f)
+message_then P name kind any f k = finds_then RawUtf8 P (under name (message_of kind any)) f (finds_under RawUtf8 name (message_of kind any) (finds_message kind any)) k
 
-found_end : (name : List ℕ) (message : Raw) → RawBytes message → Finds {E = Refusal} FoundBytes (Ok (record { name = name; raw = message }))
-found_end name message h = finds_ok FoundBytes (record { name = name; raw = message }) h
+found_end : (name : List ℕ) (message : Raw) → RawUtf8 message → Finds {E = Refusal} FoundUtf8 (Ok (record { name = name; raw = message }))
+found_end name message h = finds_ok FoundUtf8 (record { name = name; raw = message }) h
 
-finds_found : (kind : Kind) (any : AnyValue) → Finds FoundBytes (found_of kind any)
+finds_found : (kind : Kind) (any : AnyValue) → Finds FoundUtf8 (found_of kind any)
 unfolding found_of
 finds_found kind any = search (found_end, message_then, finds_past) depth 25
 
@@ -176,43 +177,43 @@ halts_in kind any = search (halts_then, halts_under, stops_readable, stops_messa
 halts_check : (refuses : List ℕ → Bool) (kind : Kind) (any : AnyValue) → Halts (check_of refuses kind any)
 unfolding check_of
 halts_check refuses kind any =
-    halts_found FoundBytes (found_of kind any) _ (halts_in kind any) (finds_found kind any) (λ found h. search (h, halts_then, halts_under, stops_raw, halts_ok) depth 25)
+    halts_found FoundUtf8 (found_of kind any) _ (halts_in kind any) (finds_found kind any) (λ found h. search (h, halts_then, halts_under, stops_raw, halts_ok) depth 25)
 
 -- ---- refused texts
 
-text_at : (name : Option (List ℕ)) (stop : Stop) → StopsAt stop → Maybe AreBytes (refused_text (Err (record { name = name; stop = stop })))
+text_at : (name : Option (List ℕ)) (stop : Stop) → StopsAt stop → Maybe IsUtf8 (refused_text (Err (record { name = name; stop = stop })))
 text_at name (Because reason) h = tt
 text_at name (Refused text) h = h
 
-text_of : (r : Result Checked Refusal) → Halts r → Maybe AreBytes (refused_text r)
+text_of : (r : Result Checked Refusal) → Halts r → Maybe IsUtf8 (refused_text r)
 text_of (Ok checked) h = tt
 text_of (Err refusal) h = text_at refusal.name refusal.stop (h.says refusal refl)
 
-put_bytes : (o : Option (List ℕ)) (xs : List (List ℕ)) → Maybe AreBytes o → AllBytes xs → AllBytes (cons_option o xs)
-put_bytes None xs h k = k
-put_bytes (Some x) xs h k = (h, k)
+put_text : (o : Option (List ℕ)) (xs : List (List ℕ)) → Maybe IsUtf8 o → All IsUtf8 xs → All IsUtf8 (cons_option o xs)
+put_text None xs h k = k
+put_text (Some x) xs h k = All-cons IsUtf8 x xs h k
 
-texts_of : (refuses : List ℕ → Bool) (kind : Kind) (anys : List AnyValue) → AllBytes (filter_map refused_text (map (check_of refuses kind) anys))
-texts_of refuses kind [] = tt
-texts_of refuses kind (any ∷ anys) = put_bytes (refused_text (check_of refuses kind any)) _ (text_of (check_of refuses kind any) (halts_check refuses kind any)) (texts_of refuses kind anys)
+texts_of : (refuses : List ℕ → Bool) (kind : Kind) (anys : List AnyValue) → All IsUtf8 (filter_map refused_text (map (check_of refuses kind) anys))
+texts_of refuses kind [] = All-nil IsUtf8
+texts_of refuses kind (any ∷ anys) = put_text (refused_text (check_of refuses kind any)) _ (text_of (check_of refuses kind any) (halts_check refuses kind any)) (texts_of refuses kind anys)
 
-once_by : (b : Bool) (before : List (List ℕ)) (x : List ℕ) (xs : List (List ℕ)) → AreBytes x → AllBytes (once before xs) → AllBytes (once (x ∷ before) xs) → AllBytes (cond b (once before xs) (x ∷ once (x ∷ before) xs))
+once_by : (b : Bool) (before : List (List ℕ)) (x : List ℕ) (xs : List (List ℕ)) → IsUtf8 x → All IsUtf8 (once before xs) → All IsUtf8 (once (x ∷ before) xs) → All IsUtf8 (cond b (once before xs) (x ∷ once (x ∷ before) xs))
 once_by true before x xs h k l = k
-once_by false before x xs h k l = (h, l)
+once_by false before x xs h k l = All-cons IsUtf8 x (once (x ∷ before) xs) h l
 
-once_bytes : (before xs : List (List ℕ)) → AllBytes xs → AllBytes (once before xs)
-once_bytes before [] h = tt
-once_bytes before (x ∷ xs) h = once_by (among x before) before x xs h.0 (once_bytes before xs h.1) (once_bytes (x ∷ before) xs h.1)
+once_texts : (before xs : List (List ℕ)) → All IsUtf8 xs → All IsUtf8 (once before xs)
+once_texts before [] h = All-nil IsUtf8
+once_texts before (x ∷ xs) h =
+    let more : All IsUtf8 xs = All-tail IsUtf8 x xs h in
+    once_by (among x before) before x xs (All-head IsUtf8 x xs h) (once_texts before xs more) (once_texts (x ∷ before) xs more)
 
-stopped_bytes : (boot : Bootstrap) (target : Target) (refused : List (List ℕ)) (told : Option Told) → AllBytes (stopped_at (setting_of boot target) refused told)
-stopped_bytes boot target refused None = tt
-stopped_bytes boot target refused (Some t) = once_bytes [] _ (texts_of (λ text. among text refused) t.kind t.resources)
+stopped_texts : (boot : Bootstrap) (target : Target) (refused : List (List ℕ)) (told : Option Told) → All IsUtf8 (stopped_at (setting_of boot target) refused told)
+stopped_texts boot target refused None = All-nil IsUtf8
+stopped_texts boot target refused (Some t) = once_texts [] _ (texts_of (λ text. among text refused) t.kind t.resources)
 
-right_what : (boot : Bootstrap) (target : Target) (e : Entry) (w : What) (past : List Entry) → IsReply (setting_of boot target) e w past (pages (setting_of boot target) past) → RefusesBytes w
-right_what boot target e (What.Driver event reply) past h = subst AllBytes (sym h.refused_is) (stopped_bytes boot target reply.refused _)
-right_what boot target e (What.Caller event reply) past h = tt
+what_refused : (boot : Bootstrap) (target : Target) (e : Entry) (w : What) (past : List Entry) → IsReply (setting_of boot target) e w past (pages (setting_of boot target) past) → All IsUtf8 (refused_in w)
+what_refused boot target e (What.Driver event reply) past h = subst (All IsUtf8) (sym h.refused_is) (stopped_texts boot target reply.refused _)
+what_refused boot target e (What.Caller event reply) past h = All-nil IsUtf8
 
--- each right history of a session's setting
-pub right_bytes : (boot : Bootstrap) (target : Target) (history : List Entry) → Right (setting_of boot target) history → AllRefuseBytes history
-right_bytes boot target [] h = tt
-right_bytes boot target (e ∷ past) h = (right_what boot target e e.what past h.0, right_bytes boot target past h.1)
+pub refused_are_texts : RefusedAreTexts
+refused_are_texts boot target e past h = what_refused boot target e e.what past h.0

@@ -1,5 +1,6 @@
--- The checks of a resource stop at no pattern, or at one whose text is of bytes.
+-- The checks of a resource stop at no pattern, or at one whose text is UTF-8.
 use Rattle.std.proofs.Common.{rules, ◌≡◌, ℕ, ◌+◌, List, [], ◌∷◌, Bool, true, false, cond, Option, Some, None, Result, Ok, Err, refl, subst}
+use Rattle.std.specs.Str.{IsUtf8}
 use Rattle.xc_base.specs.declared.reason.Reason.{Reason}
 use Rattle.check_steps.specs.declared.check_fault.Stop.{Stop}
 use Rattle.check_steps.specs.declared.check_fault.Stop.TheVariants.{Because, Refused}
@@ -42,13 +43,12 @@ use Rattle.proto_route.specs.declared.header_matcher.RawHeaderMatcherOne.{RawHea
 use Rattle.proto_route.specs.declared.header_matcher.RawHeaderMatcherOne.TheVariants as header
 use Rattle.proto_route.specs.declared.string_matcher.RawStringMatcherOne.{RawStringMatcherOne}
 use Rattle.proto_route.specs.declared.string_matcher.RawStringMatcherOne.TheVariants as string
-use Rattle.text_law.proofs.Texts.{AreBytes}
 
 abbrev pub StopsAt : Stop → Type 0
 StopsAt (Because reason) = Unit {0}
-StopsAt (Refused text) = AreBytes text
+StopsAt (Refused text) = IsUtf8 text
 
--- a step that stops at no pattern, or at one of bytes
+-- a step that stops at no pattern, or at one that is UTF-8
 pub record Stops {A : Type 0} (r : Result A Stop) : Type 0 where
   pub says : (stop : Stop) → r ≡ Err stop → StopsAt stop
 
@@ -169,23 +169,23 @@ stops_action (Some action) = stops_forward action.one
 
 -- ---- patterns
 
-pub stops_pattern : (refuses : List ℕ → Bool) (pattern : List ℕ) → AreBytes pattern → Stops (pattern_of refuses pattern)
+pub stops_pattern : (refuses : List ℕ → Bool) (pattern : List ℕ) → IsUtf8 pattern → Stops (pattern_of refuses pattern)
 stops_pattern refuses pattern h = stops_if (refuses pattern) (Err (Refused pattern)) (Ok pattern)
     (record { says = λ stop is. let same : Refused pattern ≡ stop = cc is in subst StopsAt same h }) (stops_ok pattern)
 
--- what each raw message has of patterns is bytes
-abbrev pub StringBytes : Option RawStringMatcherOne → Type 0
-StringBytes (Some (string.SafeRegex pattern)) = AreBytes pattern.regex
-StringBytes _ = Unit {0}
+-- what each raw message has of patterns is UTF-8
+abbrev pub StringUtf8 : Option RawStringMatcherOne → Type 0
+StringUtf8 (Some (string.SafeRegex pattern)) = IsUtf8 pattern.regex
+StringUtf8 _ = Unit {0}
 
-abbrev pub HeaderBytes : Option RawHeaderMatcherOne → Type 0
-HeaderBytes (Some (header.SafeRegexMatch pattern)) = AreBytes pattern.regex
-HeaderBytes (Some (header.StringMatch string)) = StringBytes string.one
-HeaderBytes _ = Unit {0}
+abbrev pub HeaderUtf8 : Option RawHeaderMatcherOne → Type 0
+HeaderUtf8 (Some (header.SafeRegexMatch pattern)) = IsUtf8 pattern.regex
+HeaderUtf8 (Some (header.StringMatch string)) = StringUtf8 string.one
+HeaderUtf8 _ = Unit {0}
 
-abbrev pub PathBytes : Option RawRouteMatchOne → Type 0
-PathBytes (Some (raw_test.SafeRegex pattern)) = AreBytes pattern.regex
-PathBytes _ = Unit {0}
+abbrev pub PathUtf8 : Option RawRouteMatchOne → Type 0
+PathUtf8 (Some (raw_test.SafeRegex pattern)) = IsUtf8 pattern.regex
+PathUtf8 _ = Unit {0}
 
 -- each of a list, and one that is there
 abbrev pub Each : {X : Type 0} → (X → Type 0) → List X → Type 0
@@ -196,25 +196,25 @@ abbrev pub Maybe : {X : Type 0} → (X → Type 0) → Option X → Type 0
 Maybe P None = Unit {0}
 Maybe P (Some x) = P x
 
-abbrev pub MatcherBytes : RawHeaderMatcher → Type 0
-MatcherBytes raw = HeaderBytes raw.one
+abbrev pub MatcherUtf8 : RawHeaderMatcher → Type 0
+MatcherUtf8 raw = HeaderUtf8 raw.one
 
-abbrev pub MatchBytes : RawRouteMatch → Type 0
-MatchBytes m = PathBytes m.one × Each MatcherBytes m.headers
+abbrev pub MatchUtf8 : RawRouteMatch → Type 0
+MatchUtf8 m = PathUtf8 m.one × Each MatcherUtf8 m.headers
 
-abbrev pub RouteBytes : RawRoute → Type 0
-RouteBytes raw = Maybe MatchBytes raw.match_
+abbrev pub RouteUtf8 : RawRoute → Type 0
+RouteUtf8 raw = Maybe MatchUtf8 raw.match_
 
-abbrev pub HostBytes : RawVirtualHost → Type 0
-HostBytes raw = Each RouteBytes raw.routes
+abbrev pub HostUtf8 : RawVirtualHost → Type 0
+HostUtf8 raw = Each RouteUtf8 raw.routes
 
-abbrev pub RoutesBytes : RawRoutes → Type 0
-RoutesBytes raw = Each HostBytes raw.virtual_hosts
+abbrev pub RoutesUtf8 : RawRoutes → Type 0
+RoutesUtf8 raw = Each HostUtf8 raw.virtual_hosts
 
-stops_test : (refuses : List ℕ → Bool) (pattern : List ℕ) → AreBytes pattern → Stops (pattern_test refuses pattern)
+stops_test : (refuses : List ℕ → Bool) (pattern : List ℕ) → IsUtf8 pattern → Stops (pattern_test refuses pattern)
 stops_test refuses pattern h = search (stops_then, stops_pattern, stops_ok) depth 25
 
-stops_string : (refuses : List ℕ → Bool) (b : Bool) (one : Option RawStringMatcherOne) → StringBytes one → Stops (string_test refuses b one)
+stops_string : (refuses : List ℕ → Bool) (b : Bool) (one : Option RawStringMatcherOne) → StringUtf8 one → Stops (string_test refuses b one)
 stops_string refuses b None h = stops_because Reason.NoHeaderMatch
 stops_string refuses b (Some (string.Exact t)) h = stops_ok _
 stops_string refuses b (Some (string.Prefix t)) h = stops_ok _
@@ -222,7 +222,7 @@ stops_string refuses b (Some (string.Suffix t)) h = stops_ok _
 stops_string refuses b (Some (string.SafeRegex pattern)) h = stops_test refuses pattern.regex h
 stops_string refuses b (Some (string.Contains t)) h = stops_ok _
 
-stops_header : (refuses : List ℕ → Bool) (one : Option RawHeaderMatcherOne) → HeaderBytes one → Stops (header_test refuses one)
+stops_header : (refuses : List ℕ → Bool) (one : Option RawHeaderMatcherOne) → HeaderUtf8 one → Stops (header_test refuses one)
 stops_header refuses None h = stops_because Reason.NoHeaderMatch
 stops_header refuses (Some (header.ExactMatch t)) h = stops_ok _
 stops_header refuses (Some (header.RangeMatch range)) h = stops_ok _
@@ -233,11 +233,11 @@ stops_header refuses (Some (header.SafeRegexMatch pattern)) h = stops_test refus
 stops_header refuses (Some (header.ContainsMatch t)) h = stops_ok _
 stops_header refuses (Some (header.StringMatch raw)) h = stops_string refuses raw.ignore_case raw.one h
 
-stops_rule : (refuses : List ℕ → Bool) (raw : RawHeaderMatcher) → MatcherBytes raw → Stops (header_rule refuses raw)
+stops_rule : (refuses : List ℕ → Bool) (raw : RawHeaderMatcher) → MatcherUtf8 raw → Stops (header_rule refuses raw)
 unfolding header_rule
 stops_rule refuses raw h = search (h, stops_then, stops_header, stops_ok) depth 25
 
-stops_path : (refuses : List ℕ → Bool) (b : Bool) (one : Option RawRouteMatchOne) → PathBytes one → Stops (path_test refuses b one)
+stops_path : (refuses : List ℕ → Bool) (b : Bool) (one : Option RawRouteMatchOne) → PathUtf8 one → Stops (path_test refuses b one)
 stops_path refuses b None h = stops_because Reason.NoPath
 stops_path refuses b (Some (raw_test.Prefix t)) h = stops_ok _
 stops_path refuses b (Some (raw_test.Path t)) h = stops_ok _
@@ -249,22 +249,22 @@ stops_each_of P f [] all h = stops_ok []
 stops_each_of P f (x ∷ xs) all h =
     stops_then (f x) (λ y. each f xs >>= λ ys. Ok (y ∷ ys)) (h x all.0) (λ y. stops_then (each f xs) (λ ys. Ok (y ∷ ys)) (stops_each_of P f xs all.1 h) (λ ys. stops_ok (y ∷ ys)))
 
-stops_rules : (refuses : List ℕ → Bool) (raws : List RawHeaderMatcher) → Each MatcherBytes raws → Stops (each (header_rule refuses) raws)
-stops_rules refuses raws h = stops_each_of MatcherBytes (header_rule refuses) raws h (stops_rule refuses)
+stops_rules : (refuses : List ℕ → Bool) (raws : List RawHeaderMatcher) → Each MatcherUtf8 raws → Stops (each (header_rule refuses) raws)
+stops_rules refuses raws h = stops_each_of MatcherUtf8 (header_rule refuses) raws h (stops_rule refuses)
 
-stops_match : {A : Type 0} (found : Option RawRouteMatch) (f : RawRouteMatch → Result A Stop) → Maybe MatchBytes found → ((m : RawRouteMatch) → PathBytes m.one → Each MatcherBytes m.headers → Stops (f m)) → Stops (match_in found >>= f)
+stops_match : {A : Type 0} (found : Option RawRouteMatch) (f : RawRouteMatch → Result A Stop) → Maybe MatchUtf8 found → ((m : RawRouteMatch) → PathUtf8 m.one → Each MatcherUtf8 m.headers → Stops (f m)) → Stops (match_in found >>= f)
 stops_match None f h k = stops_because Reason.NoPath
 stops_match (Some m) f h k = k m h.0 h.1
 
-stops_route : (refuses : List ℕ → Bool) (place : ℕ) (raw : RawRoute) → RouteBytes raw → Stops (route_of refuses place raw)
+stops_route : (refuses : List ℕ → Bool) (place : ℕ) (raw : RawRoute) → RouteUtf8 raw → Stops (route_of refuses place raw)
 unfolding route_of
 stops_route refuses place raw h = search (h, stops_match, stops_then, stops_path, stops_rules, stops_runtime, stops_action, stops_ok) depth 25
 
-stops_kept : (refuses : List ℕ → Bool) (place : ℕ) (raw : RawRoute) → RouteBytes raw → Stops (kept_of refuses place raw)
+stops_kept : (refuses : List ℕ → Bool) (place : ℕ) (raw : RawRoute) → RouteUtf8 raw → Stops (kept_of refuses place raw)
 unfolding kept_of
 stops_kept refuses place raw h = search (h, stops_if, stops_then, stops_route, stops_ok) depth 25
 
-stops_routes : (refuses : List ℕ → Bool) (place : ℕ) (raws : List RawRoute) → Each RouteBytes raws → Stops (routes_from refuses place raws)
+stops_routes : (refuses : List ℕ → Bool) (place : ℕ) (raws : List RawRoute) → Each RouteUtf8 raws → Stops (routes_from refuses place raws)
 unfolding routes_from
 stops_routes refuses place [] h = stops_ok []
 stops_routes refuses place (raw ∷ raws) h =
@@ -272,12 +272,12 @@ stops_routes refuses place (raw ∷ raws) h =
     let more = stops_routes refuses (place + 1) raws h.1 in
     search (first, more, stops_then, stops_ok) depth 25
 
-stops_host : (refuses : List ℕ → Bool) (raw : RawVirtualHost) → HostBytes raw → Stops (host_of refuses raw)
+stops_host : (refuses : List ℕ → Bool) (raw : RawVirtualHost) → HostUtf8 raw → Stops (host_of refuses raw)
 unfolding host_of
 stops_host refuses raw h = search (h, stops_then, stops_demand, stops_routes, stops_ok) depth 25
 
-pub stops_value : (refuses : List ℕ → Bool) (name : List ℕ) (raw : RawRoutes) → RoutesBytes raw → Stops (route_value refuses name raw)
+pub stops_value : (refuses : List ℕ → Bool) (name : List ℕ) (raw : RawRoutes) → RoutesUtf8 raw → Stops (route_value refuses name raw)
 unfolding route_value
 stops_value refuses name raw h =
-    let hosts = stops_each_of HostBytes (host_of refuses) raw.virtual_hosts h (stops_host refuses) in
+    let hosts = stops_each_of HostUtf8 (host_of refuses) raw.virtual_hosts h (stops_host refuses) in
     search (hosts, stops_then, stops_ok) depth 25

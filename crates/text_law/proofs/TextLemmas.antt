@@ -1,5 +1,6 @@
 -- Texts cut at their first byte of a kind, escapes, and decimals.
 use Rattle.std.proofs.Common.{◌≡◌, ℕ, zero, suc, ◌/◌, ◌%◌, ◌<◌, List, [], ◌∷◌, ◌++◌, Bool, true, false, eqb, All, length, get_or, refl, sym, ap, ◌∙◌, arith}
+use Rattle.std.specs.Str.{IsUtf8}
 use Rattle.std.specs.Fmt.{digit_glyph, digits, digits_onto, decimal}
 use Rattle.std.proofs.lemmas.Bool.{cond-true, cond-false, cond_both}
 use Rattle.std.proofs.lemmas.Bool.Decides.{nat_tests}
@@ -8,6 +9,7 @@ use Rattle.percent_encoding.specs.Percent.{percent_decode, percent_encode_byte}
 use Rattle.percent_encoding.proofs.PercentLemmas.{All-percent_encode_byte, IsEscapeByte, percent_decode-nil, percent_decode-percent_encode_byte, percent_decode_not_percent}
 use Rattle.report_parts.specs.ReportWords.{escaped, stays}
 use Rattle.text_law.proofs.Texts.{lacks, AreBytes, begins_pattern}
+use Rattle.text_law.proofs.ByteLemmas.{utf8_bytes}
 
 -- ---- cuts
 
@@ -73,8 +75,8 @@ decode_escaped : (bs : List ℕ) → AreBytes bs → percent_decode (escaped bs)
 decode_escaped [] h = ap percent_decode escaped_none ∙ percent_decode-nil
 decode_escaped (b ∷ bs) h = decode_byte (stays b) b bs refl h.0 (decode_escaped bs h.1)
 
-pub escaped_injective : (x y : List ℕ) → AreBytes x → AreBytes y → escaped x ≡ escaped y → x ≡ y
-escaped_injective x y h k e = sym (decode_escaped x h) ∙ (ap percent_decode e ∙ decode_escaped y k)
+pub escaped_injective : (x y : List ℕ) → IsUtf8 x → IsUtf8 y → escaped x ≡ escaped y → x ≡ y
+escaped_injective x y h k e = sym (decode_escaped x (utf8_bytes x h)) ∙ (ap percent_decode e ∙ decode_escaped y (utf8_bytes y k))
 
 kept_other : (t : Bool) (b c : ℕ) → eqb c b ≡ t → stays c ≡ true → stays b ≡ false → Other b c
 kept_other true b c same kept gone =

@@ -1,1 +1,2 @@
 pub mod TextLaw
+pub mod RefusedTexts
