@@ -1,6 +1,6 @@
 mod BeginLemmas
 mod EscapeLemmas
 mod LineLemmas
-mod ListedProofs
+pub mod ListedProofs
 mod ListedRows
 mod ListingLemmas
