@@ -1,5 +1,5 @@
 -- An entry over a past is fixed by what isn't up to the client, and so by the plan and the refused texts.
-use Rattle.std.proofs.Common.{◌≡◌, ℕ, List, [], ◌∷◌, ◌++◌, map, ap, subst}
+use Rattle.std.proofs.Common.{◌≡◌, ℕ, List, ◌∷◌, map, ap, subst}
 use Rattle.call_journal.specs.declared.entry.Entry.{Entry}
 use Rattle.call_journal.specs.declared.entry.What.{What}
 use Rattle.call_journal.specs.declared.plan.Count.{Count}
@@ -10,6 +10,7 @@ use Rattle.xds_history.specs.Setting.{Setting, setting_of}
 use Rattle.xds_history.specs.HistoryLaws.{Asked, asked_of, given_in}
 use Rattle.xds_history.specs.Responses.{refused_in}
 use Rattle.xds_history.specs.Right.{Right}
+use Rattle.xds_history.proofs.KeepProofs.{right_past}
 use Rattle.xds_history.proofs.LawProofs.{one_reply}
 use Rattle.book_progress.specs.ActorCounts.{count_of}
 use Rattle.book_progress.specs.PlayedPlans.{IsNextOf, step_in}
@@ -32,11 +33,6 @@ one_entry s past e other right more actors lines steps refused =
     let both : other ∷ past ≡ e ∷ past = one_reply s (other ∷ past) (e ∷ past) more right (ap (λ (a : Asked). a ∷ map asked_of past) asked) in
     cc both
 
--- what is behind the entries of a right history is right
-right_behind : (s : Setting) (later past : List Entry) → Right s (later ++ past) → Right s past
-right_behind s [] past right = right
-right_behind s (e ∷ later) past right = right_behind s later past right.1
-
 pub next_is_one : NextIsOne
 next_is_one session later past e other legal right next actors refused =
     let s : Setting = setting_of session.boot session.target in
@@ -47,4 +43,4 @@ next_is_one session later past e other legal right next actors refused =
     let own : IsNextIn its.is.list count e = own_next session later past e its.is.list legal its.is.actor_is in
     let same = next_alike its.is.list count its.listed own.listed other.line e.line (step_in other.what) (step_in e.what)
     its.is.next_is own.get its.line_is own.line its.step_is own.step in
-    one_entry s past e other (right_behind s later (e ∷ past) legal.right) right actors same.0 same.1 refused
+    one_entry s past e other (right_past s later (e ∷ past) legal.right) right actors same.0 same.1 refused
