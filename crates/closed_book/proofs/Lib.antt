@@ -1,1 +1,2 @@
 pub mod EndedPlays
+pub mod ReadyProofs

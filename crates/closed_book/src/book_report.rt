@@ -1,16 +1,23 @@
 //! The Book of a channel whose threads have ended: its tests, the last sweep, and what is reported.
-ghost use Rattle.std.specs.Prelude.{◌≡◌, ◌<◌, ◌≤◌, length, All, IfOk, OnOk, Some};
+ghost use Rattle.std.specs.Prelude.{◌≡◌, ◌≢◌, ◌↔◌, ◌<◌, ◌≤◌, List, length, drop, All, Err, IfOk, IsTrue, None, OnOk, Some};
 ghost use Rattle.snapshot_store.specs.Tickets.{values_of};
+ghost use Rattle.call_journal.specs.declared.event.DriverEvent.TheVariants.{Sweep as SweepValue};
 ghost use Rattle.session_lines.specs.declared.session.Session.{Session as SessionValue};
 ghost use Rattle.xds_history.specs.Pages.{pages};
 ghost use Rattle.xds_history.specs.References.{snapshots_of};
 ghost use Rattle.xds_history.specs.Responses.{refused_texts};
 ghost use Rattle.xds_history.specs.Setting.{setting_of};
 ghost use Rattle.legal_history.specs.Legal.{EndsInSweep, Legal};
+ghost use Rattle.book_progress.specs.PlayedPlans.{IsNext};
+ghost use Rattle.book_progress.specs.PlayedPlans as played;
 ghost use Rattle.book_progress.specs.ProgressKept.{most_entries};
-ghost use Rattle.xds_book.specs.BookEntries.{IsLaneOf};
+ghost use Rattle.xds_book.specs.BookEntries.{Drives, IsLaneOf};
+ghost use Rattle.xds_book.specs.BookViews.{LaneView};
+ghost use Rattle.xds_book.specs.declared.book_faults.BookFault.TheVariants.{Memory as BookMemory};
 ghost use Rattle.session_player.specs.Stages.{IsOfSession};
 ghost use Rattle.lane_checks.specs.EndedPlans.{HaveEndedTo};
+ghost use Rattle.closed_book.specs.ReadyBooks.{IsReadyToClose};
+ghost use Rattle.closed_book.specs.declared.stops.Stop.TheVariants.{Memory as NoMemory, Strange};
 
 use crate::stops::Stop;
 use call_journal::{DriverEvent, Plan};
@@ -34,10 +41,30 @@ pub struct ClosedBook<J: Job> {
 }
 
 /// Why the last sweep can't be made.
-fn stop_in(fault: BookFault) -> Stop {
+fn stop_in(fault: BookFault) -> Stop
+    ensures { (result ≡ NoMemory) ↔ (fault ≡ BookMemory) }
+{
     match fault {
         BookFault::Memory => Stop::Memory,
         BookFault::Ended | BookFault::Full => Stop::Strange,
+    }
+}
+
+/// Whether the driver's lane is of the Book, and the last sweep is what is listed next for it.
+fn may_sweep<J: Job>(book: &Book<J>, plan: &Plan, driver: &Lane<J>) -> bool
+    requires planned { J.plan ≡ Some plan.now.actors }
+    requires driver { driver.now.actor ≡ 0 }
+    ensures own { IsTrue result → IsLaneOf driver.now book.now }
+    ensures next { IsTrue result → IsNext J.plan driver.now.actor driver.now.count 0 (played.driver SweepValue) book.now.entries }
+    ensures may { (lanes : List LaneView) → IsReadyToClose plan.now.actors book.now driver.now lanes → IsTrue result }
+{
+    let _actors = book.actors();
+    if !book.is_of(driver) {
+        return false;
+    }
+    match next_listed(plan, driver) {
+        Some(listed) => is_last_sweep(listed),
+        None => false,
     }
 }
 
@@ -52,14 +79,12 @@ impl<J: Job> ClosedBook<J> {
         requires driver { driver.old.actor ≡ 0 }
         ensures sweeps { OnOk result (EndsInSweep self.new.book.entries) }
         ensures refused { OnOk result (driver.new.refused ≡ driver.old.refused) }
+        ensures drives { OnOk result (Drives 0 SweepValue None self.old.book self.new.book driver.old driver.new) }
+        ensures lanes { self.new.lanes ≡ self.old.lanes }
+        ensures plan { self.new.plan ≡ self.old.plan }
+        ensures ready { IsReadyToClose self.old.plan.actors self.old.book driver.old self.old.lanes → result ≢ Err Strange }
     {
-        if !self.book.is_of(driver) {
-            return Err(Stop::Strange);
-        }
-        let Some(listed) = next_listed(&self.plan, driver) else {
-            return Err(Stop::Strange);
-        };
-        if !is_last_sweep(listed) {
+        if !may_sweep(&self.book, &self.plan, driver) {
             return Err(Stop::Strange);
         }
         match self
@@ -69,6 +94,32 @@ impl<J: Job> ClosedBook<J> {
             Ok(_) => Ok(()),
             Err(fault) => Err(stop_in(fault)),
         }
+    }
+
+    /// Makes the last sweep, and tests what was played.
+    #[tactic(auto, using(crate::proofs::ReadyProofs::past_of))]
+    fn close<R: Wait + Sync, L: Ledger>(
+        &mut self,
+        rt: &R,
+        driver: &mut Lane<J>,
+        steps: &mut Steps<L>,
+    ) -> Result<(), Stop>
+        requires driver { driver.old.actor ≡ 0 }
+        ensures plan { self.new.plan ≡ self.old.plan }
+        ensures sweeps { OnOk result (EndsInSweep self.new.book.entries) }
+        ensures refused { OnOk result (refused_texts self.new.book.entries ≡ driver.old.refused) }
+        ensures lanes { OnOk result (All (λ lane. IsLaneOf lane self.new.book) self.new.lanes) }
+        ensures ended { OnOk result (HaveEndedTo (length self.new.plan.actors) self.new.plan.actors self.new.book.counts) }
+        ensures past { OnOk result (drop 1 self.new.book.entries ≡ self.old.book.entries) }
+        ensures plays { IsReadyToClose self.old.plan.actors self.old.book driver.old self.old.lanes → result ≢ Err Strange }
+    {
+        let _actors = self.book.actors();
+        self.sweep(rt, driver, steps)?;
+        let callers = self.lanes.as_slice();
+        if !have_played_all(&self.book, &self.plan, driver, callers) {
+            return Err(Stop::Strange);
+        }
+        Ok(())
     }
 
     /// The journal, and the snapshots that were published.
@@ -87,7 +138,7 @@ impl<J: Job> ClosedBook<J> {
 
     /// Makes the last sweep, tests what was played, and gives what is reported: the history of the Book, where each lane is of
     /// it, the driver's refused texts are those of the journal, and each actor has played all that is listed for it. `Strange`
-    /// comes where one of these isn't so, and `Memory` for want of memory.
+    /// comes where one of these isn't so, and never of a Book that is ready to close; `Memory` comes for want of memory.
     pub fn report<R: Wait + Sync, L: Ledger>(
         self,
         rt: &R,
@@ -102,15 +153,13 @@ impl<J: Job> ClosedBook<J> {
         ensures snapshots { IfOk result (λ played. (session : SessionValue) → IsOfSession J.plan J.boot J.target session self.plan.actors → values_of played.history.tickets ≡ snapshots_of (pages (setting_of session.boot session.target) played.journal.entries)) }
         ensures few { IfOk result (λ played. length played.history.tickets ≤ most_entries) }
         ensures refused { IfOk result (λ played. refused_texts played.journal.entries ≡ driver.refused) }
+        ensures past { IfOk result (λ played. drop 1 played.journal.entries ≡ self.book.entries) }
+        ensures plays { IsReadyToClose self.plan.actors self.book driver self.lanes → result ≢ Err Strange }
     {
         let mut closed = self;
         let mut driver = driver;
         let mut steps = Steps::<L>::new(blank);
-        closed.sweep(rt, &mut driver, &mut steps)?;
-        let callers = closed.lanes.as_slice();
-        if !have_played_all(&closed.book, &closed.plan, &driver, callers) {
-            return Err(Stop::Strange);
-        }
+        closed.close(rt, &mut driver, &mut steps)?;
         Ok(closed.finish())
     }
 }

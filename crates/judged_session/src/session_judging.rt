@@ -6,8 +6,9 @@ ghost use Rattle.report_compare.specs.LegalReports.{IsReportOf};
 ghost use Rattle.session_player.specs.Stages.{IsOfSession};
 ghost use Rattle.session_shape.specs.SessionShape.{IsWellFormed};
 
-use crate::named_turns::{Outcome, WholePlay, play_report};
+use crate::played_reports::{Outcome, WholePlay, play_report};
 use crate::session_book::begin_book;
+use crate::split_lanes::split_lanes;
 use crate::trials::Trial;
 use closed_book::{ClosedBook, Stop};
 use cluster_tree::Snapshot;
@@ -53,26 +54,22 @@ fn judge_whole<J: Job, L: Ledger, R: Wait + Sync>(
     requires of { IsOfSession J.plan J.boot J.target trial.session.now trial.plan.actors }
     ensures legal { result ≡ Ok None → IsReportOf trial.entry.session.now trial.entry.report.now }
 {
+    let WholePlay { lanes, line } = whole;
+    let Some(lanes) = split_lanes(lanes) else {
+        return Ok(Some(Mistake::stuck(line)));
+    };
     let Trial {
         alloc,
         session,
         plan,
         report,
     } = trial;
-    let WholePlay { mut lanes, line } = whole;
-    if lanes.is_empty() {
-        return Ok(Some(Mistake::stuck(line)));
-    }
-    let driver = lanes.remove(0);
-    if driver.actor() != 0 {
-        return Ok(Some(Mistake::stuck(line)));
-    }
     let closed = ClosedBook {
         book,
-        lanes: List::from_vec(lanes),
+        lanes: lanes.callers,
         plan,
     };
-    let played = match closed.report::<R, L>(rt, blank, driver) {
+    let played = match closed.report::<R, L>(rt, blank, lanes.driver) {
         Ok(played) => played,
         Err(Stop::Strange) => return Ok(Some(Mistake::stuck(line))),
         Err(Stop::Memory) => return Err(AllocError),

@@ -46,13 +46,15 @@ nothing_gained before after gained more same = nothing_by before gained (ap (λ 
 pub all_the_same : (before after gained : List (List ℕ)) → after ≡ before ++ gained → gained ≡ [] → after ≡ before
 all_the_same before after gained more none = more ∙ (ap (λ (ts : List (List ℕ)). before ++ ts) none ∙ append-nil before)
 
-itself_by : (before gained : List (List ℕ)) → before ++ gained ≡ before → gained ≡ []
-itself_by before gained is = nothing_by before gained (ap (λ (ts : List (List ℕ)). length ts) is)
+-- what gains texts is longer than it was
+longer_by : (told gained : List (List ℕ)) → (gained ≡ [] → ⊥) → length told < length (told ++ gained)
+longer_by told [] some = absurd (some refl)
+longer_by told (text ∷ texts) some = omega (arith, length-append told (text ∷ texts))
 
--- what gains a text isn't what it was
-pub not_the_same : (told tells before after gained : List (List ℕ)) → tells ≡ told ++ gained → after ≡ before ++ gained → length after ≢ length before → tells ≢ told
-not_the_same told tells before after gained told_more more grows same =
-    grows (ap (λ (ts : List (List ℕ)). length ts) (all_the_same before after gained more (itself_by told gained (sym told_more ∙ same))))
+pub gets_longer : (told tells before after gained : List (List ℕ)) → tells ≡ told ++ gained → after ≡ before ++ gained → length after ≢ length before → length told < length tells
+gets_longer told tells before after gained told_more more grows =
+    subst (λ (ts : List (List ℕ)). length told < length ts) (sym told_more)
+    (longer_by told gained (λ none. grows (ap (λ (ts : List (List ℕ)). length ts) (all_the_same before after gained more none))))
 
 -- ---- one more resource
 

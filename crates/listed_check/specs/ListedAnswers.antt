@@ -1,5 +1,5 @@
 -- What a response comes to where the texts that are refused as patterns are given.
-use Rattle.std.specs.Prelude.{◌≡◌, ◌≢◌, ℕ, List, Bool, Option}
+use Rattle.std.specs.Prelude.{◌≡◌, ◌≢◌, ◌<◌, ℕ, List, Bool, Option, length}
 use Rattle.xc_base.specs.declared.names.Kind.{Kind}
 use Rattle.proto_discovery.specs.declared.any.AnyValue.{AnyValue}
 use Rattle.proto_discovery.specs.Response.{response_of}
@@ -32,7 +32,7 @@ AreParts listed kind resources parts.Unbuilt = Unit {0}
 abbrev pub TellParts : List (List ℕ) → List (List ℕ) → ListedParts → Type 0
 TellParts told tells (parts.Delivered delivered) = tells ≡ told
 TellParts told tells parts.OtherTexts = tells ≡ told
-TellParts told tells parts.Unbuilt = tells ≢ told
+TellParts told tells parts.Unbuilt = length told < length tells
 
 -- ---- payloads
 
@@ -62,7 +62,7 @@ IfOthers payload listed answer.Unbuilt = Unit {0}
 abbrev pub TellsUnbuilt : List (List ℕ) → List (List ℕ) → ListedAnswer → Type 0
 TellsUnbuilt told tells (answer.Prepared prepared) = tells ≡ told
 TellsUnbuilt told tells answer.OtherTexts = tells ≡ told
-TellsUnbuilt told tells answer.Unbuilt = tells ≢ told
+TellsUnbuilt told tells answer.Unbuilt = length told < length tells
 
 -- ---- one reading
 

@@ -1,5 +1,5 @@
 //! The resources of a response, checked where the refused pattern texts are given.
-ghost use Rattle.std.specs.Prelude.{◌≡◌, ◌≢◌, ◌<◌, ◌^◌, ◌++◌, ℕ, List, length, IfNone, IfOk, IfSome, Result};
+ghost use Rattle.std.specs.Prelude.{◌≡◌, ◌<◌, ◌^◌, ◌++◌, ℕ, List, length, IfNone, IfOk, IfSome, Result};
 ghost use Rattle.check_steps.specs.declared.check_fault.Refusal.{Refusal as Stopping};
 ghost use Rattle.resource_check.specs.Answers.{Gives, TellsAll};
 ghost use Rattle.resource_check.specs.Deliveries.{AreShort, IsLawfulDelivery, delivery_of, refused_text};
@@ -83,7 +83,7 @@ fn check_listed<P: Patterns>(
     ensures text { IfOk result (λ found. IfSome found (λ stopped. (listed : List (List ℕ)) → RefusesThese asked.old listed → stopped.text ≡ refused_text (check_of (refuses listed) kind any.now))) }
     ensures refused { IfOk result (λ found. IfSome found (λ _. asked.new.refused ≡ asked.old.refused)) }
     ensures told { IfOk result (λ found. IfSome found (λ _. P.refused patterns.new ≡ P.refused patterns.old)) }
-    ensures unbuilt { IfOk result (λ found. IfNone found (P.refused patterns.new ≢ P.refused patterns.old)) }
+    ensures unbuilt { IfOk result (λ found. IfNone found (length (P.refused patterns.old) < length (P.refused patterns.new))) }
     ensures lawful { IfOk result (λ found. IfSome found (λ stopped. IsLawfulDelivery kind stopped.part)) }
 {
     let before = asked.refused().len();

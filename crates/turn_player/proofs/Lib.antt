@@ -1,1 +1,5 @@
-pub mod TurnSteps
+mod TurnLemmas
+mod SeatLemmas
+mod PlaceLemmas
+mod PlayLemmas
+pub mod LaneLemmas

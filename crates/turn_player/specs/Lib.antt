@@ -1,1 +1,4 @@
 pub mod TurnPlans
+pub mod DueEvents
+pub mod TableSeats
+pub mod TablePlaces

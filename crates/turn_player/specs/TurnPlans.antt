@@ -1,8 +1,6 @@
--- Plans by which turns are played, and calls whose pin is up (this project's own).
-use Rattle.std.specs.Prelude.{◌≡◌, ◌<◌, ℕ, List, Option, Some}
-use Rattle.call_journal.specs.declared.event.DriverEvent.{DriverEvent}
+-- Plans by which turns are played, and where the lanes of actors are between their turns (this project's own).
+use Rattle.std.specs.Prelude.{◌≡◌, ◌<◌, ℕ, List, Option, Some, IfSome}
 use Rattle.call_journal.specs.declared.plan.Listed.{Listed}
-use Rattle.resource_check.specs.declared.delivery.Prepared.{Prepared}
 use Rattle.book_progress.specs.ProgressKept.{most_entries}
 use Rattle.xds_book.specs.BookViews.{LaneView, PinnedView}
 use Rattle.channel_calls.specs.ChannelPlans.{HasChannelPlan, HasUp}
@@ -12,19 +10,21 @@ pub record IsTurnPlan (plan : Option (List (List Listed))) (authorities : ℕ) (
   pub planned : plan ≡ Some lists
   pub fits : HasChannelPlan plan authorities most_entries
 
--- the lane of a caller and the token of the pin that is up, with the line in which the call starts and the line that gates it
+-- the token of a pin that is up, with the line in which its call starts and the line that gates it
 pub record UpView : Type 0 where
-  pub lane : LaneView
   pub token : PinnedView
   pub line : ℕ
   pub after : Option ℕ
 
--- the call of the token is the one that is listed, and its hold comes next
-pub record IsUp (plan : Option (List (List Listed))) (up : UpView) : Type 0 where
-  pub caller : 0 < up.lane.actor
-  pub listed : HasUp plan up.lane up.line up.after up.token.call
+-- the lane of an actor, and the pin of its call if one is up
+pub record SeatView : Type 0 where
+  pub lane : LaneView
+  pub up : Option UpView
 
--- an event of the driver, and what its payload was read as
-pub record ComingView : Type 0 where
-  pub event : DriverEvent
-  pub prepared : Option Prepared
+-- the call of the token is the one that is listed for the lane, and its hold comes next
+pub record IsUp (plan : Option (List (List Listed))) (lane : LaneView) (up : UpView) : Type 0 where
+  pub caller : 0 < lane.actor
+  pub listed : HasUp plan lane up.line up.after up.token.call
+
+abbrev pub IsSeat : Option (List (List Listed)) → SeatView → Type 0
+IsSeat plan seat = IfSome seat.up (IsUp plan seat.lane)

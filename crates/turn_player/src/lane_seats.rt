@@ -3,31 +3,34 @@ use lane_checks::GatedLine;
 use std::marker::Model;
 use xds_book::{Job, Lane, Pinned};
 
-/// The lane of a caller whose call has its pin up, with the token of the pin.
+/// The token of a pin that is up, with the line in which its call starts.
 #[derive(Drop)]
 pub struct UpCall<J: Job> {
-    pub(crate) lane: Lane<J>,
     pub(crate) token: Pinned<J>,
     pub(crate) at: GatedLine,
 }
 
 impl<J: Job> Model for UpCall<J> {
-    ghost use Rattle.turn_player.specs.TurnPlans.{IsUp, UpView};
+    ghost use Rattle.turn_player.specs.TurnPlans.{UpView};
 
     ghost Value = { UpView };
 
-    ghost view = { λ u. record { lane = u.lane; token = u.token; line = u.at.line; after = u.at.after } };
-
-    ghost invariant = { λ u. IsUp J.plan (record { lane = u.lane; token = u.token; line = u.at.line; after = u.at.after }) };
+    ghost view = { λ u. record { token = u.token; line = u.at.line; after = u.at.after } };
 }
 
-/// Where the lane of one actor is.
+/// The lane of one actor, and the pin of its call if one is up.
 #[derive(Drop)]
-pub enum Seat<J: Job> {
-    /// No pin of the actor is up.
-    Free(Lane<J>),
-    /// A call of the actor has its pin up.
-    Up(UpCall<J>),
-    /// The lane is at work.
-    Away,
+pub struct Seat<J: Job> {
+    pub(crate) lane: Lane<J>,
+    pub(crate) up: Option<UpCall<J>>,
+}
+
+impl<J: Job> Model for Seat<J> {
+    ghost use Rattle.turn_player.specs.TurnPlans.{IsSeat, SeatView};
+
+    ghost Value = { SeatView };
+
+    ghost view = { λ s. record { lane = s.lane; up = s.up } };
+
+    ghost invariant = { λ s. IsSeat J.plan (record { lane = s.lane; up = s.up }) };
 }

@@ -1,13 +1,12 @@
 //! Sessions that are played on a Book by one thread, in the order of turns that is told.
 #![tactic(auto)]
 
-pub mod gated_steps;
-pub mod halts;
+pub mod due_events;
 pub mod lane_seats;
-pub mod listed_patterns;
+mod seat_steps;
+mod turn_places;
 pub mod turn_playing;
 
-pub use halts::Halt;
 pub use lane_seats::Seat;
-pub use listed_patterns::ListedPatterns;
 pub use turn_playing::Table;
+pub use turn_steps::Halt;

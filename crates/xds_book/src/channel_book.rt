@@ -112,12 +112,14 @@ impl<J: Job> Book<J> {
         Ok((book, lanes))
     }
 
-    /// How many actors there are: the driver and the callers.
+    /// How many actors there are: the driver and the callers. Its clauses say what holds of every Book.
     pub fn actors(&self) -> usize
         ensures counts { result ≡ length self.now.counts }
         ensures plan { HasActors J.plan result }
         ensures counted { self.now.counts ≡ counts_of (length self.now.counts) self.now.entries }
         ensures played { IsPlayed J.plan self.now.entries }
+        ensures right { Right (setting_of J.boot J.target) self.now.entries }
+        ensures few { length self.now.entries ≤ most_entries }
     {
         self.journal.actors()
     }

@@ -1,12 +1,12 @@
 use Rattle.std.proofs.Common.{◌≡◌, ◌≢◌, length}
 use Rattle.listed_check.specs.ListedAnswers.{refuses}
-use Rattle.listed_check.proofs.ListedLemmas.{agrees_listed, all_the_same, not_the_same, nothing_gained}
+use Rattle.listed_check.proofs.ListedLemmas.{agrees_listed, all_the_same, gets_longer, nothing_gained}
 use Rattle.listed_check.proofs.listed_resources.check_listed.Goals as goal
 
 pub returns-then-refused-before-clause-unbuilt : goal.returns-then-refused-before-clause-unbuilt
 returns-then-refused-before-clause-unbuilt g c =
     let grows : length c.check_or_halt.new.asked.refused ≢ length c.args.asked.now.refused = rw (c.refused.ensures, c.refused-before.ensures) at c.if-refused-before.true in
-    not_the_same _ _ c.args.asked.now.refused c.check_or_halt.new.asked.refused _ (c.in_ok-stopped.ensures.told _ _ _ c.check_or_halt.ensures.told) c.check_or_halt.ensures.gains grows
+    gets_longer _ _ c.args.asked.now.refused c.check_or_halt.new.asked.refused _ (c.in_ok-stopped.ensures.told _ _ _ c.check_or_halt.ensures.told) c.check_or_halt.ensures.gains grows
 
 pub returns-clause-part : goal.returns-clause-part
 returns-clause-part g c = λ listed fits.

@@ -1,0 +1,33 @@
+-- Books in which all is played but the last sweep (this project's own).
+use Rattle.std.specs.Prelude.{◌≡◌, ◌<◌, ◌≤◌, ◌^◌, ℕ, List, length, All, None, Some, false, slice_get}
+use Rattle.call_journal.specs.declared.event.DriverEvent.{DriverEvent}
+use Rattle.call_journal.specs.declared.plan.Listed.{Listed}
+use Rattle.call_journal.specs.declared.plan.ListedEvent.{ListedEvent}
+use Rattle.xds_history.specs.Responses.{refused_texts}
+use Rattle.book_progress.specs.ActorCounts.{count_of, with_ended}
+use Rattle.book_progress.specs.PlayedPlans.{IsListed, all_ended}
+use Rattle.book_progress.specs.ProgressKept.{most_entries}
+use Rattle.xds_book.specs.BookEntries.{IsLaneOf}
+use Rattle.xds_book.specs.BookViews.{BookView, LaneView}
+
+-- the last sweep, as a plan lists it: no line has it, and none gates it
+abbrev pub listed_sweep : Listed
+listed_sweep = record { line = 0; after = None; event = ListedEvent.Driver DriverEvent.Sweep }
+
+-- a caller's lane is of the Book
+pub record IsCallerOf (book : BookView) (lane : LaneView) : Type 0 where
+  pub caller : 0 < lane.actor
+  pub own : IsLaneOf lane book
+
+-- The driver is actor 0. All lanes are of the Book, and the driver's refused texts are those of the journal. Each caller has
+-- ended all events of its list, and the driver all but one, which is the last sweep. The Book takes one more entry.
+pub record IsReadyToClose (plan : List (List Listed)) (book : BookView) (driver : LaneView) (lanes : List LaneView) : Type 0 where
+  pub own : IsLaneOf driver book
+  pub refused : driver.refused ≡ refused_texts book.entries
+  pub callers : All (IsCallerOf book) lanes
+  pub ended : (caller : ℕ) (list : List Listed) → 0 < caller → slice_get plan caller ≡ Some list → count_of caller book.entries ≡ all_ended list
+  pub driven : (list : List Listed) → slice_get plan 0 ≡ Some list → with_ended (count_of 0 book.entries) ≡ all_ended list
+  pub sweep : IsListed plan 0 (count_of 0 book.entries) listed_sweep
+  pub goes_on : book.is_spent ≡ false
+  pub room : length book.entries < most_entries
+  pub few : length plan ≤ 2 ^ 16

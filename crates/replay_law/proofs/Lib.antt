@@ -1,0 +1,3 @@
+pub mod PlayedNewest
+pub mod AnsweredRefusals
+pub mod ReplayProofs

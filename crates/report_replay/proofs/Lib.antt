@@ -1,0 +1,5 @@
+pub mod FoundLemmas
+pub mod SweepLemmas
+pub mod DueLemmas
+pub mod PlayLemmas
+pub mod BeginLemmas

@@ -1,0 +1,201 @@
+-- What a turn of a legal history's report leaves when it is played.
+use Rattle.std.proofs.Common.{◌≡◌, ◌≢◌, ◌⊎◌, ◌≤◌, ◌+◌, ◌-◌, ◌^◌, ℕ, suc, List, [], ◌∷◌, ◌++◌, length, All, Option, Some, None, Result, Ok, Err, refl, sym, ap, ◌∙◌, subst, inl, inr, arith}
+use Rattle.call_journal.specs.declared.entry.Entry.{Entry}
+use Rattle.call_journal.specs.declared.plan.Listed.{Listed}
+use Rattle.config_assembly.specs.Orders.{Name}
+use Rattle.xds_bootstrap.specs.declared.bootstrap.Bootstrap.{Bootstrap}
+use Rattle.xds_name.specs.declared.target.Target.{Target}
+use Rattle.session_lines.specs.declared.session.Session.{Session}
+use Rattle.session_plan.specs.PlanOfSession.{plan_of}
+use Rattle.session_plan.specs.ReadablePayloads.{is_response}
+use Rattle.session_shape.specs.SessionShape.{AreLines}
+use Rattle.session_player.specs.Stages.{IsOfSession}
+use Rattle.xds_history.specs.Right.{Right}
+use Rattle.xds_history.specs.Setting.{setting_of}
+use Rattle.legal_history.specs.Legal.{Legal}
+use Rattle.turn_law.specs.TurnLaw.{IsTurn}
+use Rattle.book_progress.specs.PlayedPlans.{IsPlayed}
+use Rattle.book_progress.specs.ProgressKept.{most_entries}
+use Rattle.sweep_law.proofs.SweepProofs.{sweep_stands}
+use Rattle.report_turns.specs.declared.entry_turns.EntryTurn.{EntryTurn}
+use Rattle.report_turns.specs.declared.misplaced_turns.Misplaced.{Misplaced}
+use Rattle.turn_steps.specs.declared.halts.Halt.{Halt}
+use Rattle.turn_steps.specs.declared.halts.Halt.TheVariants as halt
+use Rattle.turn_player.specs.TurnPlans.{SeatView}
+use Rattle.turn_player.specs.TableSeats.{AreDone, AreLeft, AreSeated, IsDue, IsSweepNext, IsTurnPlayed}
+use Rattle.xds_book.specs.BookEntries.{entry_of}
+use Rattle.xds_book.specs.BookKept.{HasActors}
+use Rattle.xds_book.specs.BookViews.{BookView}
+use Rattle.std.specs.Prelude.{IfOk}
+use Rattle.std.specs.declared.alloc.AllocError.{AllocError}
+use Rattle.report_replay.specs.ReplayedTurns.{HasCome, HasPlayedOn, HasReplayed, HasSwept, IsAtEnd, IsEnd, IsLegalReplay, IsNextAfter, IsNextOfReplay, IsTurnOf, ReplayView, lines_left}
+use Rattle.report_replay.specs.declared.replaying.Next.{Next}
+use Rattle.report_replay.specs.declared.replaying.Next.TheVariants as next
+use Rattle.report_replay.proofs.DueLemmas.{line_is_no_sweep, made_is, turn_is_due}
+use Rattle.report_replay.proofs.SweepLemmas.{seats_done, sweep_next}
+
+-- ---- the turn can be played
+
+abbrev pub Played : Type 0
+Played = Result (Option Misplaced) Halt
+
+-- it is made, unless memory runs out
+abbrev pub IsMade : Played → Type 0
+IsMade result = (result ≡ Ok None) ⊎ (result ≡ Err halt.Memory)
+
+actors_are : (plan : Option (List (List Listed))) (boot : Bootstrap) (target : Target) (session : Session) (lists : List (List Listed)) (n : ℕ) → IsOfSession plan boot target session lists → HasActors plan n → length lists ≡ n
+actors_are plan boot target session lists n of has = subst (λ (p : Option (List (List Listed))). HasActors p n) of.plan_is has
+
+pub seats_are_done : (plan : Option (List (List Listed))) (boot : Bootstrap) (target : Target) (session : Session) (history : List Entry) (lists : List (List Listed)) (made : ℕ) (book : BookView) (seats : List SeatView)
+    → IsLegalReplay plan boot target session history lists → HasActors plan (length book.counts) → HasSwept history made book seats → AreDone lists seats
+seats_are_done plan boot target session history lists made book seats replay actors swept =
+    let h : Legal session (swept.sweep ∷ swept.past) = subst (λ (es : List Entry). Legal session es) (sym swept.whole) replay.legal in
+    seats_done session swept.past swept.sweep lists book seats h replay.of.lists_are (actors_are plan boot target session lists (length book.counts) replay.of actors) swept.come
+
+goes : (plan : Option (List (List Listed))) (boot : Bootstrap) (target : Target) (session : Session) (history : List Entry) (lists : List (List Listed)) (made : ℕ) (turn : EntryTurn) (book : BookView) (replay : ReplayView) (result : Played)
+    → IsLegalReplay plan boot target session history lists → HasActors plan (length book.counts) → (of : IsTurnOf session history made turn book replay) → (later : List Entry) → later ≡ of.later
+    → (AreSeated book replay.seats → IsDue lists turn.actor turn.line book → turn.line ≢ 0 → IsMade result) → (AreSeated book replay.seats → AreDone lists replay.seats → IsSweepNext lists turn.actor turn.line book → result ≡ Ok None) → IsMade result
+goes plan boot target session history lists made turn book replay result legal actors of [] none goes_on sweeps =
+    let whole : of.entry ∷ of.past ≡ history = subst (λ (es : List Entry). es ++ of.entry ∷ of.past ≡ history) (sym none) of.whole in
+    let h : Legal session (of.entry ∷ of.past) = subst (λ (es : List Entry). Legal session es) (sym whole) legal.legal in
+    inl (sweeps of.come.seated (seats_done session of.past of.entry lists book replay.seats h legal.of.lists_are (actors_are plan boot target session lists (length book.counts) legal.of actors) of.come)
+    (sweep_next session of.past of.entry lists book turn.actor turn.line h legal.of.lists_are of.come.entries of.actor_is of.line_is))
+goes plan boot target session history lists made turn book replay result legal actors of (next ∷ later) some goes_on sweeps =
+    let whole : next ∷ (later ++ of.entry ∷ of.past) ≡ history = subst (λ (es : List Entry). es ++ of.entry ∷ of.past ≡ history) (sym some) of.whole in
+    let h : Legal session (next ∷ (later ++ of.entry ∷ of.past)) = subst (λ (es : List Entry). Legal session es) (sym whole) legal.legal in
+    let all : All IsTurn ((next ∷ later) ++ of.entry ∷ of.past) = subst (λ (es : List Entry). All IsTurn es) (sym whole) legal.turns in
+    goes_on of.come.seated
+    (turn_is_due session (next ∷ later) of.past of.entry lists book turn.actor turn.line h all legal.of.formed.lines legal.of.lists_are of.come.entries of.come.goes_on of.actor_is of.line_is)
+    (line_is_no_sweep session next later of.past of.entry turn.line legal.of.formed.lines h of.line_is)
+
+pub turn_goes : (plan : Option (List (List Listed))) (boot : Bootstrap) (target : Target) (session : Session) (history : List Entry) (lists : List (List Listed)) (made : ℕ) (turn : EntryTurn) (book : BookView) (replay : ReplayView)
+    (result : Played) → IsLegalReplay plan boot target session history lists → HasActors plan (length book.counts) → IsTurnOf session history made turn book replay
+    → (AreSeated book replay.seats → IsDue lists turn.actor turn.line book → turn.line ≢ 0 → IsMade result) → (AreSeated book replay.seats → AreDone lists replay.seats → IsSweepNext lists turn.actor turn.line book → result ≡ Ok None) → IsMade result
+turn_goes plan boot target session history lists made turn book replay result legal actors of goes_on sweeps =
+    goes plan boot target session history lists made turn book replay result legal actors of of.later refl goes_on sweeps
+
+pub not_misplaced : (result : Played) (why : Misplaced) → IsMade result → result ≡ Ok (Some why) → ⊥
+not_misplaced result why (inl none) is = absurd (cc (none, is))
+not_misplaced result why (inr memory) is = absurd (cc (memory, is))
+
+pub not_strange : (result : Played) → IsMade result → result ≡ Err halt.Strange → ⊥
+not_strange result (inl none) is = absurd (cc (none, is))
+not_strange result (inr memory) is = absurd (cc (memory, is))
+
+-- ---- what it leaves
+
+suc_is : (n m : ℕ) → n ≡ m → n + 1 ≡ suc m
+suc_is n m is = omega (arith, is)
+
+some_left : (e : Entry) (later : List Entry) → e ∷ later ≢ []
+some_left e later = λ is. absurd (cc is)
+
+come_on : (past entries : List Entry) (old new : BookView) (before after : List SeatView) → new.entries ≡ entries → AreSeated new after → new.is_spent ≡ old.is_spent → HasCome past old before → HasCome entries new after
+come_on past entries old new before after is seated goes_on come = record {
+  entries = is;
+  seated = seated;
+  goes_on = goes_on ∙ come.goes_on;
+}
+
+come_left : (past : List Entry) (old new : BookView) (before after : List SeatView) (told tells : List Name) → AreLeft old new before after told tells → HasCome past old before → HasCome past new after
+come_left past old new before after told tells left come =
+    subst (λ (b : BookView). HasCome past b after) (sym left.book) (subst (λ (s : List SeatView). HasCome past old s) (sym left.seats) come)
+
+leaves : (plan : Option (List (List Listed))) (boot : Bootstrap) (target : Target) (session : Session) (history : List Entry) (lists : List (List Listed)) (made : ℕ) (turn : EntryTurn) (old new : BookView) (replay : ReplayView)
+    (after : List SeatView) (told tells : List Name) → IsLegalReplay plan boot target session history lists → (of : IsTurnOf session history made turn old replay) → (later : List Entry) → later ≡ of.later
+    → (AreSeated old replay.seats → AreSeated new after) → (turn.line ≢ 0 → AreSeated old replay.seats → IsTurnPlayed turn.actor turn.line turn.more.now old new told tells) → (turn.line ≡ 0 → AreLeft old new replay.seats after told tells)
+    → Right (setting_of boot target) new.entries → IsPlayed plan new.entries → HasPlayedOn session history (made + 1) told tells new (record { plan = replay.plan; seats = after; lines = replay.lines })
+leaves plan boot target session history lists made turn old new replay after told tells legal of [] none seated played last right plays =
+    let whole : of.entry ∷ of.past ≡ history = subst (λ (es : List Entry). es ++ of.entry ∷ of.past ≡ history) (sym none) of.whole in
+    let h : Legal session (of.entry ∷ of.past) = subst (λ (es : List Entry). Legal session es) (sym whole) legal.legal in
+    let left : AreLeft old new replay.seats after told tells = last (of.line_is ∙ (sweep_stands session of.past of.entry h).line_is) in
+    let lines : replay.lines ≡ lines_left session [] history = of.lines_are ∙ (ap (λ (es : List Entry). lines_left session es (of.entry ∷ of.past)) (sym none) ∙ ap (λ (es : List Entry). lines_left session [] es) whole) in
+    λ same. inr (record {
+      swept = record {
+        sweep = of.entry;
+        past = of.past;
+        whole = whole;
+        many = ap (λ (n : ℕ). n + 1) of.many;
+        come = come_left of.past old new replay.seats after told tells left of.come;
+      };
+      lines_are = lines;
+    })
+leaves plan boot target session history lists made turn old new replay after told tells legal of (next ∷ later) some seated played last right plays =
+    let whole : next ∷ (later ++ of.entry ∷ of.past) ≡ history = subst (λ (es : List Entry). es ++ of.entry ∷ of.past ≡ history) (sym some) of.whole in
+    let h : Legal session (next ∷ (later ++ of.entry ∷ of.past)) = subst (λ (es : List Entry). Legal session es) (sym whole) legal.legal in
+    let turned : IsTurnPlayed turn.actor turn.line turn.more.now old new told tells =
+    played (line_is_no_sweep session next later of.past of.entry turn.line legal.of.formed.lines h of.line_is) of.come.seated in
+    let entries : new.entries ≡ entry_of turn.actor turn.line turned.what ∷ of.past = turned.entries ∙ ap (λ (es : List Entry). entry_of turn.actor turn.line turned.what ∷ es) of.come.entries in
+    let right_by : Right (setting_of session.boot session.target) (entry_of turn.actor turn.line turned.what ∷ of.past) =
+    subst (λ (es : List Entry). Right (setting_of session.boot session.target) es) entries
+    (subst (λ (b : Bootstrap). Right (setting_of b session.target) new.entries) legal.of.boot_is (subst (λ (t : Target). Right (setting_of boot t) new.entries) legal.of.target_is right)) in
+    let plays_by : IsPlayed (Some (plan_of is_response session)) (entry_of turn.actor turn.line turned.what ∷ of.past) =
+    subst (λ (es : List Entry). IsPlayed (Some (plan_of is_response session)) es) entries
+    (subst (λ (p : Option (List (List Listed))). IsPlayed p new.entries) (legal.of.plan_is ∙ ap (λ (ls : List (List Listed)). Some ls) legal.of.lists_are) plays) in
+    let left_by : lines_left session of.later (of.entry ∷ of.past) ≡ lines_left session (next ∷ later) (of.entry ∷ of.past) = ap (λ (es : List Entry). lines_left session es (of.entry ∷ of.past)) (sym some) in
+    λ same.
+    let is : entry_of turn.actor turn.line turned.what ≡ of.entry =
+    made_is session (next ∷ later) of.past of.entry turned.what turn.actor turn.line turn.more.now h right_by plays_by of.actor_is (of.more ∙ left_by) (λ listed lists. turned.refused listed lists same) in
+    inl (record {
+      later = next ∷ later;
+      past = of.entry ∷ of.past;
+      whole = whole;
+      left = some_left next later;
+      many = suc_is made (length of.past) of.many;
+      come = come_on of.past (of.entry ∷ of.past) old new replay.seats after (entries ∙ ap (λ (e : Entry). e ∷ of.past) is) (seated of.come.seated) turned.goes_on of.come;
+      lines_are = of.lines_are ∙ left_by;
+    })
+
+pub turn_leaves : (plan : Option (List (List Listed))) (boot : Bootstrap) (target : Target) (session : Session) (history : List Entry) (lists : List (List Listed)) (made : ℕ) (turn : EntryTurn) (old new : BookView) (replay : ReplayView)
+    (after : List SeatView) (told tells : List Name) → IsLegalReplay plan boot target session history lists → IsTurnOf session history made turn old replay → (AreSeated old replay.seats → AreSeated new after)
+    → (turn.line ≢ 0 → AreSeated old replay.seats → IsTurnPlayed turn.actor turn.line turn.more.now old new told tells) → (turn.line ≡ 0 → AreLeft old new replay.seats after told tells) → Right (setting_of boot target) new.entries
+    → IsPlayed plan new.entries → HasPlayedOn session history (made + 1) told tells new (record { plan = replay.plan; seats = after; lines = replay.lines })
+turn_leaves plan boot target session history lists made turn old new replay after told tells legal of seated played last right plays =
+    leaves plan boot target session history lists made turn old new replay after told tells legal of of.later refl seated played last right plays
+
+-- ---- what comes of it
+
+never : {T E : Type 0} (F : T → Type 0) (result : Result T E) → ((value : T) → F value) → IfOk result F
+never F (Ok value) each = each value
+never F (Err fault) each = tt
+
+pub next_is : (F : Next → Type 0) (played : Played) (result : Result Next AllocError) → IsNextAfter played result → (played ≡ Ok None → F next.Played) → ((why : Misplaced) → played ≡ Ok (Some why) → (n : Next) → F n)
+    → (played ≡ Err halt.Strange → (n : Next) → F n) → IfOk result F
+next_is F (Ok None) result is made misplaced strange = subst (λ (r : Result Next AllocError). IfOk r F) (sym is) (made refl)
+next_is F (Ok (Some why)) result is made misplaced strange = never F result (misplaced why refl)
+next_is F (Err halt.Strange) result is made misplaced strange = never F result (strange refl)
+next_is F (Err halt.Memory) (Ok value) is made misplaced strange = absurd (cc is)
+next_is F (Err halt.Memory) (Err fault) is made misplaced strange = tt
+
+pub next_tells : (T : Type 0) (played : Played) (result : Result Next AllocError) → IsNextAfter played result → (played ≢ Err halt.Memory → T) → IfOk result (λ n. T)
+next_tells T played (Err fault) is tells = tt
+next_tells T (Ok why) (Ok value) is tells = tells (λ memory. absurd (cc memory))
+next_tells T (Err halt.Strange) (Ok value) is tells = tells (λ memory. absurd (cc memory))
+next_tells T (Err halt.Memory) (Ok value) is tells = absurd (cc is)
+
+pub if_ok : {T E : Type 0} (F G : T → Type 0) (result : Result T E) → ((value : T) → F value → G value) → IfOk result F → IfOk result G
+if_ok F G (Ok value) each holds = each value holds
+if_ok F G (Err fault) each holds = tt
+
+pub next_at_end : (session : Session) (history : List Entry) (made : ℕ) (told tells : List Name) (book : BookView) (replay : ReplayView) (n : Next) → IsEnd n → IsAtEnd history book replay
+    → IsNextOfReplay session history made told tells book replay n
+next_at_end session history made told tells book replay next.Played is at = absurd is
+next_at_end session history made told tells book replay next.End is at = at
+next_at_end session history made told tells book replay (next.Wrong mistake) is at = absurd is
+
+-- ---- all turns
+
+pub line_left : (found : Option ℕ) (line : ℕ) → found ≡ None → found ≡ Some line → ⊥
+line_left found line none some = absurd (cc (none, some))
+
+few : (n entries : ℕ) → n ≤ entries + 1 → entries ≤ 1048576 → n ≡ 2 ^ 32 - 1 → ⊥
+few n entries most room is = omega (arith, most, room, is)
+
+-- a history has fewer turns than there are numbers of lines
+pub turns_are_few : (session : Session) (history : List Entry) (made : ℕ) (book : BookView) (replay : ReplayView) → HasReplayed session history made book replay → length book.entries ≤ most_entries → made ≡ 2 ^ 32 - 1 → ⊥
+turns_are_few session history made book replay (inl playing) room all =
+    let many : made ≡ length book.entries = playing.many ∙ ap length (sym playing.come.entries) in
+    few made (length book.entries) (omega (arith, many)) room all
+turns_are_few session history made book replay (inr swept) room all =
+    let many : made ≡ length book.entries + 1 = swept.swept.many ∙ ap (λ (es : List Entry). length es + 1) (sym swept.swept.come.entries) in
+    few made (length book.entries) (omega (arith, many)) room all

@@ -1,0 +1,2 @@
+pub mod TurnSteps
+pub mod TellLemmas
