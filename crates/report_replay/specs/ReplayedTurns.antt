@@ -118,6 +118,7 @@ IsNextAfter (Ok (Some why)) result = IsOk result
 IsNextAfter (Err halt.Strange) result = IsOk result
 IsNextAfter (Err halt.Memory) result = IsErr result
 
+-- the report's turns end, and they play all that is listed
 abbrev pub IsEnd : Next → Type 0
 IsEnd next.Played = ⊥
 IsEnd next.End = Unit {0}
