@@ -45,19 +45,6 @@ pub nothing_next : (plan : List (List Listed)) (lane : LaneView) (found : Option
     → found ≡ None → lane.count.pins ≡ 0 → IsMisplaced plan line book lane
 nothing_next plan lane found line book some none free = λ step next nonzero. none_is next.listed (sym none ∙ some next.listed free next.is)
 
-pub another_next : (plan : List (List Listed)) (lane : LaneView) (found : Option Listed) (listed : Listed) (line : ℕ) (book : BookView)
-    → ((other : Listed) → lane.count.pins ≡ 0 → IsListed plan lane.actor lane.count other → found ≡ Some other) → found ≡ Some listed → listed.line ≢ line → lane.count.pins ≡ 0 → IsMisplaced plan line book lane
-another_next plan lane found listed line book some is apart free = λ step next nonzero.
-    let same : listed ≡ next.listed = some_is listed next.listed (sym is ∙ some next.listed free next.is) in
-    apart (ap (λ (l : Listed). l.line) same ∙ sym next.line_is)
-
-pub shut_next : (plan : List (List Listed)) (lane : LaneView) (found : Option Listed) (listed : Listed) (line : ℕ) (book : BookView)
-    → ((other : Listed) → lane.count.pins ≡ 0 → IsListed plan lane.actor lane.count other → found ≡ Some other) → found ≡ Some listed → (IsOpen listed.after book.entries → ⊥) → lane.count.pins ≡ 0
-    → IsMisplaced plan line book lane
-shut_next plan lane found listed line book some is shut free = λ step next nonzero.
-    let same : next.listed ≡ listed = sym (some_is listed next.listed (sym is ∙ some next.listed free next.is)) in
-    shut (subst (λ (l : Listed). IsOpen l.after book.entries) same next.gate)
-
 -- ---- a call whose pin is up
 
 -- what is listed next for a lane whose pin is up

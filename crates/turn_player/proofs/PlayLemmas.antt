@@ -37,10 +37,6 @@ pub short_on : (plan : Option (List (List Listed))) (authorities room actor line
     → IsShortOf listed.event
 short_on plan authorities room actor line book seats listed fits on = short_next plan authorities room on.seat.lane listed fits on.next.next
 
-pub next_by : (plan : Option (List (List Listed))) (lists : List (List Listed)) (actor line : ℕ) (book : BookView) (seats : List SeatView) (listed : Listed) → plan ≡ Some lists → IsNextOn (Some lists) actor line book seats listed
-    → IsNextOn plan actor line book seats listed
-next_by plan lists actor line book seats listed is on = subst (λ (p : Option (List (List Listed))). IsNextOn p actor line book seats listed) (sym is) on
-
 -- what was prepared is listed next for the seat of the actor
 pub due_next : (plan : Option (List (List Listed))) (actor line : ℕ) (book : BookView) (seats : List SeatView) (listed : Listed) (at_line : ℕ) (at_after : Option ℕ) (event : ListedEvent) → IsNextOn plan actor line book seats listed
     → at_line ≡ listed.line → at_after ≡ listed.after → event ≡ listed.event → (own : SeatView) → slice_get seats actor ≡ Some own → HasNext plan own.lane at_line at_after event
