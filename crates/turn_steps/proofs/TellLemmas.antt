@@ -22,16 +22,3 @@ tells_through told mid tells (inr less) then = further told mid tells less then
 
 pub tells_more : (told mid tells gained : List (List ℕ)) → TellsOn told mid → tells ≡ mid ++ gained → TellsOn told tells
 tells_more told mid tells gained first is = tells_through told mid tells first (gains mid tells gained is)
-
-shorter : (told mid tells : List (List ℕ)) → length told < length mid → TellsOn mid tells → tells ≡ told → ⊥
-shorter told mid tells less (inl same) is =
-    let many : length mid ≡ length told = ap length (sym same ∙ is) in
-    omega (arith, less, many)
-shorter told mid tells less (inr more) is =
-    let many : length tells ≡ length told = ap length is in
-    omega (arith, less, more, many)
-
--- where it tells the same texts after two calls, it does after the first
-pub tells_same : (told mid tells : List (List ℕ)) → TellsOn told mid → TellsOn mid tells → tells ≡ told → mid ≡ told
-tells_same told mid tells (inl same) then is = same
-tells_same told mid tells (inr less) then is = absurd (shorter told mid tells less then is)

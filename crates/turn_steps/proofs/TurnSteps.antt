@@ -1,5 +1,5 @@
 -- What the next listed event of a lane finds in a Book.
-use Rattle.std.proofs.Common.{◌≡◌, ◌≢◌, ℕ, List, length, Option, Some, None, subst, sym}
+use Rattle.std.proofs.Common.{◌≡◌, ◌≢◌, ℕ, List, length, Option, Some, None, subst}
 use Rattle.xc_base.specs.declared.call.Call.{Call}
 use Rattle.call_journal.specs.declared.event.CallerEvent.{CallerEvent}
 use Rattle.call_journal.specs.declared.plan.Count.{Count}
@@ -14,16 +14,9 @@ use Rattle.book_progress.specs.ProgressKept.{counts_of, most_entries}
 use Rattle.book_progress.proofs.TallyLemmas.{count_is}
 use Rattle.planned_calls.specs.PlannedCalls.{IsNewCall}
 use Rattle.planned_calls.proofs.CallProofs.{next_hold_is_up, next_start_is_new}
-use Rattle.channel_calls.specs.ChannelPlans.{HasChannelPlan, HasListed, HasNext}
-use Rattle.book_progress.specs.PlayedPlans.{IsListed}
+use Rattle.channel_calls.specs.ChannelPlans.{HasChannelPlan}
 use Rattle.xds_book.specs.BookEntries.{IsLaneOf}
 use Rattle.xds_book.specs.BookViews.{BookView, LaneView}
-
--- what is listed for a lane is what comes next for it
-pub next_of : (plan : Option (List (List Listed))) (lists : List (List Listed)) (lane : LaneView) (listed : Listed) → plan ≡ Some lists → IsListed lists lane.actor lane.count listed
-    → lane.count.pins ≡ 0 → HasNext plan lane listed.line listed.after listed.event
-next_of plan lists lane listed is at none =
-    subst (λ (p : Option (List (List Listed))). HasListed p lane 0 listed.line listed.after listed.event) (sym is) (record { listed = at; pins_are = none })
 
 -- the next step by the count over the history
 by_count : (plan : List (List Listed)) (lane : LaneView) (line : ℕ) (step : Step) (book : BookView) → IsLaneOf lane book → book.counts ≡ counts_of (length book.counts) book.entries
