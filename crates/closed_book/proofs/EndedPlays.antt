@@ -1,5 +1,5 @@
 -- A Book whose actors have all ended is that of a legal history.
-use Rattle.std.proofs.Common.{◌≡◌, ◌<◌, ◌≤◌, ℕ, suc, List, [], ◌∷◌, ◌++◌, length, All, false, Option, Some, None, refl, inl, inr, sym, ap, ◌∙◌, subst, arith, append-nil}
+use Rattle.std.proofs.Common.{◌≡◌, ◌<◌, ◌≤◌, ℕ, suc, List, [], ◌∷◌, length, All, false, Option, Some, refl, inl, inr, sym, ap, ◌∙◌, subst, arith, append-nil}
 use Rattle.std.specs.Prelude.{◌==◌}
 use Rattle.std.specs.List.{slice_get}
 use Rattle.std.proofs.lemmas.Bool.{cond-false}
@@ -7,65 +7,26 @@ use Rattle.std.proofs.lemmas.Bool.Decides.{nat_tests}
 use Rattle.std.proofs.lemmas.List.FromFn.{length-map-range_with_len, get_or-map-range_with_len}
 use Rattle.std.proofs.lemmas.Option.{get_or_from_slice_get, slice_get_cases, slice_get_within}
 use Rattle.call_journal.specs.declared.entry.Entry.{Entry}
-use Rattle.call_journal.specs.declared.event.DriverEvent.{DriverEvent}
 use Rattle.call_journal.specs.declared.plan.Count.{Count}
 use Rattle.call_journal.specs.declared.plan.Listed.{Listed}
-use Rattle.call_journal.specs.declared.plan.ListedEvent.{ListedEvent}
-use Rattle.config_assembly.specs.Orders.{Name}
-use Rattle.xc_base.specs.declared.names.Kind.{Kind}
-use Rattle.cluster_tree.specs.declared.snapshot.Snapshot.{Snapshot}
 use Rattle.xds_bootstrap.specs.declared.bootstrap.Bootstrap.{Bootstrap}
 use Rattle.xds_name.specs.declared.target.Target.{Target}
 use Rattle.session_lines.specs.declared.session.Session.{Session}
 use Rattle.session_plan.specs.PlanOfSession.{plan_of}
 use Rattle.session_plan.specs.ReadablePayloads.{is_response}
-use Rattle.xds_history.specs.Pages.{pages}
-use Rattle.xds_history.specs.References.{snapshots_of}
-use Rattle.xds_history.specs.Responses.{answered_kind}
 use Rattle.xds_history.specs.Right.{Right}
 use Rattle.xds_history.specs.Setting.{setting_of}
 use Rattle.legal_history.specs.Legal.{EndsInSweep, Legal}
 use Rattle.book_progress.specs.ActorCounts.{count_of, no_count}
-use Rattle.book_progress.specs.EndedLines.{IsOpen}
-use Rattle.book_progress.specs.PlayedPlans.{IsListed, IsNext, IsPlayed, driver}
+use Rattle.book_progress.specs.PlayedPlans.{IsPlayed}
 use Rattle.book_progress.specs.ProgressKept.{counts_of}
 use Rattle.channel_plan.proofs.GateProofs.{gates_are_open}
-use Rattle.xds_book.specs.BookEntries.{Drives, texts_for}
 use Rattle.xds_book.specs.BookKept.{HasActors, IsBy}
-use Rattle.xds_book.specs.BookViews.{BookView, LaneView}
+use Rattle.xds_book.specs.BookViews.{BookView}
 use Rattle.session_player.specs.LineProgress.{HaveLeft}
 use Rattle.session_player.specs.Stages.{IsOfSession}
 use Rattle.session_player.proofs.EndLemmas.{end_is_legal}
 use Rattle.lane_checks.specs.EndedPlans.{HaveEndedTo, all_ended}
-
--- ---- the last sweep
-
--- the last sweep comes next, where it is what is listed
-pub sweep_of : (plan : Option (List (List Listed))) (lists : List (List Listed)) (lane : LaneView) (listed : Listed) (history : List Entry) → plan ≡ Some lists
-    → IsListed lists lane.actor lane.count listed → lane.count.pins ≡ 0 → listed.line ≡ 0 → listed.after ≡ None → listed.event ≡ ListedEvent.Driver DriverEvent.Sweep
-    → IsNext plan lane.actor lane.count 0 (driver DriverEvent.Sweep) history
-sweep_of plan lists lane listed history is at none line free event =
-    subst (λ (p : Option (List (List Listed))). IsNext p lane.actor lane.count 0 (driver DriverEvent.Sweep) history) (sym is) (record {
-      listed = listed;
-      is = at;
-      line_is = sym line;
-      step_is = (event, none);
-      gate = subst (λ (o : Option ℕ). IsOpen o history) (sym free) tt;
-    })
-
-no_texts : (kind : Option Kind) → texts_for kind None ≡ []
-no_texts None = refl
-no_texts (Some kind) = refl
-
-pub sweep_refuses : (old new : BookView) (before after : LaneView) → Drives 0 DriverEvent.Sweep None old new before after → after.refused ≡ before.refused
-sweep_refuses old new before after drives =
-    ap (λ (l : LaneView). l.refused) drives.makes.lane
-    ∙ (ap (λ (xs : List Name). before.refused ++ xs) (drives.refused ∙ no_texts (answered_kind drives.reply.verdict)) ∙ append-nil before.refused)
-
-pub sweep_ends : (old new : BookView) (before after : LaneView) → Drives 0 DriverEvent.Sweep None old new before after → EndsInSweep new.entries
-sweep_ends old new before after drives = subst (λ (es : List Entry). EndsInSweep es) (sym drives.makes.entries) refl
-
--- ---- the end
 
 no_entries : (n actor : ℕ) (history : List Entry) → n ≤ actor → All (IsBy n) history → count_of actor history ≡ no_count
 no_entries n actor [] most made = refl
@@ -128,11 +89,3 @@ legal_by plan boot target session lists book entries of is right plays actors co
     subst (λ (n : ℕ). All (λ (e : Entry). e.actor < n) history) (sym many ∙ ap length of.lists_are) (actors_by (length book.counts) history made) in
     let opened = gates_are_open (setting_of session.boot session.target) session history of.formed own by_plan in
     subst (λ (es : List Entry). Legal session es) (sym is) (end_is_legal session history own by_plan by_all (record { left = left; opened = opened }) sweeps)
-
-pub shown_by : (plan : Option (List (List Listed))) (boot : Bootstrap) (target : Target) (session : Session) (lists : List (List Listed)) (book : BookView) (entries : List Entry) (shown : List Snapshot)
-    → IsOfSession plan boot target session lists → entries ≡ book.entries → shown ≡ snapshots_of (pages (setting_of boot target) book.entries)
-    → shown ≡ snapshots_of (pages (setting_of session.boot session.target) entries)
-shown_by plan boot target session lists book entries shown of is same =
-    subst (λ (es : List Entry). shown ≡ snapshots_of (pages (setting_of session.boot session.target) es)) (sym is)
-    (subst (λ (b : Bootstrap). shown ≡ snapshots_of (pages (setting_of b session.target) book.entries)) of.boot_is
-    (subst (λ (t : Target). shown ≡ snapshots_of (pages (setting_of boot t) book.entries)) of.target_is same))
