@@ -47,9 +47,6 @@ nothing_left (x ∷ xs) e after is =
 
 -- ---- one event
 
-abbrev Before : List Entry → Entry → List Entry → List Entry → Type 0
-Before before e after es = es ≡ before ++ e ∷ after
-
 first_next : (list later : List Listed) (n : ℕ) (next : Listed) (e f : Entry) (es after : List Entry) → drop n list ≡ next ∷ later → f ∷ es ≡ e ∷ after
     → f.line ≡ next.line → IsStep (step_in f.what) next.event 0 → IsNextIn list (count n 0) e
 first_next list later n next e f es after left is line step =
