@@ -17,11 +17,12 @@ use Rattle.book_progress.specs.ActorCounts.{count_after, count_of, with_ended}
 use Rattle.book_progress.specs.PlayedPlans.{IsListed, all_ended}
 use Rattle.book_progress.specs.ProgressKept.{counts_of}
 use Rattle.book_progress.proofs.TallyLemmas.{count_at, count_is}
+use Rattle.sweep_law.specs.SweepLaw.{listed_sweep}
 use Rattle.xds_book.specs.BookEntries.{Drives, IsLaneOf, entry_of}
 use Rattle.xds_book.specs.BookKept.{HasActors}
 use Rattle.xds_book.specs.BookViews.{BookView, LaneView}
 use Rattle.lane_checks.specs.EndedPlans.{HaveEndedTo}
-use Rattle.closed_book.specs.ReadyBooks.{IsCallerOf, IsReadyToClose, listed_sweep}
+use Rattle.closed_book.specs.ReadyBooks.{IsCallerOf, IsReadyToClose}
 
 -- ---- before the last sweep
 

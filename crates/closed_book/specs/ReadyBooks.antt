@@ -1,18 +1,13 @@
 -- Books in which all is played but the last sweep (this project's own).
-use Rattle.std.specs.Prelude.{◌≡◌, ◌<◌, ◌≤◌, ◌^◌, ℕ, List, length, All, None, Some, false, slice_get}
-use Rattle.call_journal.specs.declared.event.DriverEvent.{DriverEvent}
+use Rattle.std.specs.Prelude.{◌≡◌, ◌<◌, ◌≤◌, ◌^◌, ℕ, List, length, All, Some, false, slice_get}
 use Rattle.call_journal.specs.declared.plan.Listed.{Listed}
-use Rattle.call_journal.specs.declared.plan.ListedEvent.{ListedEvent}
 use Rattle.xds_history.specs.Responses.{refused_texts}
 use Rattle.book_progress.specs.ActorCounts.{count_of, with_ended}
 use Rattle.book_progress.specs.PlayedPlans.{IsListed, all_ended}
 use Rattle.book_progress.specs.ProgressKept.{most_entries}
+use Rattle.sweep_law.specs.SweepLaw.{listed_sweep}
 use Rattle.xds_book.specs.BookEntries.{IsLaneOf}
 use Rattle.xds_book.specs.BookViews.{BookView, LaneView}
-
--- the last sweep, as a plan lists it: no line has it, and none gates it
-abbrev pub listed_sweep : Listed
-listed_sweep = record { line = 0; after = None; event = ListedEvent.Driver DriverEvent.Sweep }
 
 -- a caller's lane is of the Book
 pub record IsCallerOf (book : BookView) (lane : LaneView) : Type 0 where
