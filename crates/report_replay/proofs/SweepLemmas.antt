@@ -18,15 +18,8 @@ use Rattle.sweep_law.proofs.SweepProofs.{sweep_is_listed, sweep_stands}
 use Rattle.xds_book.specs.BookViews.{BookView}
 use Rattle.turn_player.specs.TurnPlans.{SeatView}
 use Rattle.turn_player.specs.TableSeats.{AreDone, AreSeated, IsDone, IsSeatOf, IsSweepNext}
+use Rattle.turn_player.proofs.PlaceLemmas.{one_listed}
 use Rattle.report_replay.specs.ReplayedTurns.{HasCome}
-
-some_is : {X : Type 0} (x y : X) → Some x ≡ Some y → x ≡ y
-some_is x y is = cc is
-
-one_listed : (plan : List (List Listed)) (actor : ℕ) (count : Count) (one other : Listed) → IsListed plan actor count one → IsListed plan actor count other → one ≡ other
-one_listed plan actor count one other a b =
-    let list : a.list ≡ b.list = some_is a.list b.list (sym a.actor_is ∙ b.actor_is) in
-    some_is one other (sym a.next_is ∙ ap (λ (l : List Listed). slice_get l count.ended) list ∙ b.next_is)
 
 -- a caller that has ended all has nothing listed next
 nothing_more : (list : List Listed) (count : Count) (listed : Listed) → count ≡ all_ended list → slice_get list count.ended ≡ Some listed → ⊥

@@ -1,5 +1,5 @@
 mod TurnLemmas
 mod SeatLemmas
-mod PlaceLemmas
+pub mod PlaceLemmas
 mod PlayLemmas
 pub mod LaneLemmas

@@ -1,7 +1,7 @@
 -- Where turns stand in a plan.
 use Rattle.std.proofs.Common.{◌≡◌, ◌≢◌, ◌<◌, ◌≤◌, ℕ, List, length, Option, Some, None, refl, sym, ap, ◌∙◌, subst, arith}
 use Rattle.std.specs.Prelude.{IfNone, IfSome, slice_get, slice_index_or}
-use Rattle.std.proofs.lemmas.Option.{get_or_from_slice_get, slice_get_read, slice_get_within}
+use Rattle.std.proofs.lemmas.Option.{get_or_from_slice_get, none-some, same_Some, slice_get_read, slice_get_within}
 use Rattle.call_journal.specs.declared.event.CallerEvent.{CallerEvent}
 use Rattle.call_journal.specs.declared.plan.Count.{Count}
 use Rattle.call_journal.specs.declared.plan.Listed.{Listed}
@@ -27,23 +27,17 @@ use Rattle.turn_player.proofs.TurnLemmas.{pins_of}
 use Rattle.turn_player.specs.declared.turn_places.Place.{Place}
 use Rattle.turn_player.specs.declared.turn_places.Place.TheVariants as place
 
-some_is : {X : Type 0} (x y : X) → Some x ≡ Some y → x ≡ y
-some_is x y is = cc is
-
-none_is : {X : Type 0} (x : X) → None ≡ Some x → ⊥
-none_is x is = absurd (cc is)
-
 -- a plan lists one event next
-one_listed : (plan : List (List Listed)) (actor : ℕ) (count : Count) (one other : Listed) → IsListed plan actor count one → IsListed plan actor count other → one ≡ other
+pub one_listed : (plan : List (List Listed)) (actor : ℕ) (count : Count) (one other : Listed) → IsListed plan actor count one → IsListed plan actor count other → one ≡ other
 one_listed plan actor count one other a b =
-    let list : a.list ≡ b.list = some_is a.list b.list (sym a.actor_is ∙ b.actor_is) in
-    some_is one other (sym a.next_is ∙ ap (λ (l : List Listed). slice_get l count.ended) list ∙ b.next_is)
+    let list : a.list ≡ b.list = same_Some a.list b.list (sym a.actor_is ∙ b.actor_is) in
+    same_Some one other (sym a.next_is ∙ ap (λ (l : List Listed). slice_get l count.ended) list ∙ b.next_is)
 
 -- ---- a lane of which no pin is up
 
 pub nothing_next : (plan : List (List Listed)) (lane : LaneView) (found : Option Listed) (line : ℕ) (book : BookView) → ((listed : Listed) → lane.count.pins ≡ 0 → IsListed plan lane.actor lane.count listed → found ≡ Some listed)
     → found ≡ None → lane.count.pins ≡ 0 → IsMisplaced plan line book lane
-nothing_next plan lane found line book some none free = λ step next nonzero. none_is next.listed (sym none ∙ some next.listed free next.is)
+nothing_next plan lane found line book some none free = λ step next nonzero. none-some next.listed (sym none ∙ some next.listed free next.is)
 
 -- ---- a call whose pin is up
 
@@ -52,7 +46,7 @@ up_listed : (lists : List (List Listed)) (plan : Option (List (List Listed))) (l
     → IsListed lists lane.actor lane.count listed → record { line = up.line; after = up.after; event = ListedEvent.Start up.token.call } ≡ listed
 up_listed lists None lane up listed is has next = absurd has
 up_listed lists (Some plan) lane up listed is has next =
-    let here = subst (λ (p : List (List Listed)). IsListed p lane.actor lane.count (record { line = up.line; after = up.after; event = ListedEvent.Start up.token.call })) (some_is plan lists is) has.listed in
+    let here = subst (λ (p : List (List Listed)). IsListed p lane.actor lane.count (record { line = up.line; after = up.after; event = ListedEvent.Start up.token.call })) (same_Some plan lists is) has.listed in
     one_listed lists lane.actor lane.count (record { line = up.line; after = up.after; event = ListedEvent.Start up.token.call }) listed here next
 
 pub another_up : (lists : List (List Listed)) (plan : Option (List (List Listed))) (lane : LaneView) (up : UpView) (line : ℕ) (book : BookView) → plan ≡ Some lists → HasUp plan lane up.line up.after up.token.call → (up.line ≡ line → line ≢ 0 → ⊥)
@@ -102,7 +96,7 @@ next_listed : (lists : List (List Listed)) (plan : Option (List (List Listed))) 
     → IsListed lists lane.actor lane.count other → other ≡ listed
 next_listed lists None lane listed other is has next = absurd has
 next_listed lists (Some plan) lane listed other is has next =
-    one_listed lists lane.actor lane.count other listed next (subst (λ (p : List (List Listed)). IsListed p lane.actor lane.count listed) (some_is plan lists is) has.listed)
+    one_listed lists lane.actor lane.count other listed next (subst (λ (p : List (List Listed)). IsListed p lane.actor lane.count listed) (same_Some plan lists is) has.listed)
 
 -- what is listed next is an event of the actor's kind
 pub due_is_of : (lists : List (List Listed)) (plan : Option (List (List Listed))) (actor line : ℕ) (book : BookView) (seats : List SeatView) (seat : SeatView) (listed : Listed) → plan ≡ Some lists → IsDue lists actor line book
@@ -116,9 +110,9 @@ due_is_of lists plan actor line book seats seat listed is due seated at has =
 -- the actor of a turn that is due has a seat
 pub due_has_seat : (lists : List (List Listed)) (plan : Option (List (List Listed))) (actor line : ℕ) (book : BookView) (seats : List SeatView) → plan ≡ Some lists → HasActors plan (length book.counts) → IsDue lists actor line book
     → AreSeated book seats → actor < length seats
-due_has_seat lists None actor line book seats is has due seated = absurd (none_is lists is)
+due_has_seat lists None actor line book seats is has due seated = absurd (none-some lists is)
 due_has_seat lists (Some plan) actor line book seats is has due seated =
-    let same : length lists ≡ length book.counts = ap length (sym (some_is plan lists is)) ∙ has in
+    let same : length lists ≡ length book.counts = ap length (sym (same_Some plan lists is)) ∙ has in
     subst (λ (n : ℕ). actor < n) (same ∙ sym seated.many) (slice_get_within lists actor due.next.is.list due.next.is.actor_is)
 
 -- ---- the place of a turn
@@ -206,7 +200,7 @@ up_is_no_sweep plan lists seat up found is has next = absurd (up_pins plan seat 
 
 pub nothing_swept : (plan : List (List Listed)) (lane : LaneView) (found : Option Listed) → ((listed : Listed) → lane.count.pins ≡ 0 → IsListed plan lane.actor lane.count listed → found ≡ Some listed) → found ≡ None
     → IsSweepListed plan lane → ⊥
-nothing_swept plan lane found some none has = none_is has.listed (sym none ∙ some has.listed has.free has.next)
+nothing_swept plan lane found some none has = none-some has.listed (sym none ∙ some has.listed has.free has.next)
 
 -- what is listed for the driver is listed next for the lane of its seat
 pub sweep_at : (lists : List (List Listed)) (actor line : ℕ) (book : BookView) (seats : List SeatView) (seat : SeatView) → AreSeated book seats → AreDone lists seats → slice_get seats actor ≡ Some seat → IsSweepNext lists actor line book
@@ -228,8 +222,8 @@ sweep_at lists actor line book seats seat seated done at next =
 -- the driver has a seat
 pub sweep_no_seat : (lists : List (List Listed)) (plan : Option (List (List Listed))) (actor line : ℕ) (book : BookView) (seats : List SeatView) → plan ≡ Some lists → HasActors plan (length book.counts) → length seats ≤ actor
     → AreSeated book seats → IsSweepNext lists actor line book → ⊥
-sweep_no_seat lists None actor line book seats is has few seated next = absurd (none_is lists is)
+sweep_no_seat lists None actor line book seats is has few seated next = absurd (none-some lists is)
 sweep_no_seat lists (Some plan) actor line book seats is has few seated next =
-    let same : length lists ≡ length book.counts = ap length (sym (some_is plan lists is)) ∙ has in
+    let same : length lists ≡ length book.counts = ap length (sym (same_Some plan lists is)) ∙ has in
     let less : 0 < length seats = subst (λ (n : ℕ). 0 < n) (same ∙ sym seated.many) (slice_get_within lists 0 next.next.list next.next.actor_is) in
     beyond actor (length seats) (subst (λ (a : ℕ). a < length seats) (sym next.actor_is) less) few

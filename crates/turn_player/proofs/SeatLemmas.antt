@@ -2,7 +2,7 @@
 use Rattle.std.proofs.Common.{◌≡◌, ◌<◌, ℕ, Bool, true, false, ◌==◌, if◌then◌else◌, List, [], ◌∷◌, ◌++◌, length, slice_set, Some, refl, sym, ap, ◌∙◌, subst, append-nil, eqb-true, ne_eqb}
 use Rattle.std.proofs.lemmas.Bool.{eqb-false}
 use Rattle.std.specs.Prelude.{slice_get}
-use Rattle.std.proofs.lemmas.Option.{slice_get_within}
+use Rattle.std.proofs.lemmas.Option.{same_Some, slice_get_within}
 use Rattle.std.proofs.lemmas.List.{length-set}
 use Rattle.std.proofs.lemmas.List.FromFn.{length-map-range_with_len}
 use Rattle.call_journal.specs.declared.entry.Entry.{Entry}
@@ -50,16 +50,13 @@ texts_on : (line : ℕ) (event : ListedEvent) (texts : List Name) (old new : Boo
     → refused_texts new.entries ≡ refused_texts old.entries ++ refused_in makes.what
 texts_on line event texts old new before after makes = ap refused_texts makes.makes.entries
 
-some_is : {X : Type 0} (x y : X) → Some x ≡ Some y → x ≡ y
-some_is x y is = cc is
-
 -- the seat at which a turn is played is one after it, and so are all others
 seat_on : (same : Bool) (line : ℕ) (event : ListedEvent) (texts : List Name) (old new : BookView) (seats : List SeatView) (place : ℕ) (seat later : SeatView) → AreSeated old seats → slice_get seats place ≡ Some seat
     → MakesTurn line event texts old new seat later → (actor : ℕ) (other : SeatView) → (actor == place) ≡ same → slice_get (slice_set seats place later) actor ≡ Some other → IsSeatOf new actor other
 seat_on true line event texts old new seats place seat later seated at makes actor other same get =
     let here : actor ≡ place = eqb-true actor place same in
     let lt : place < length seats = slice_get_within seats place seat at in
-    let is : other ≡ later = some_is other later (sym get ∙ ap (λ (a : ℕ). slice_get (slice_set seats place later) a) here ∙ set_here seats place later lt) in
+    let is : other ≡ later = same_Some other later (sym get ∙ ap (λ (a : ℕ). slice_get (slice_set seats place later) a) here ∙ set_here seats place later lt) in
     let stood : IsSeatOf old place seat = seated.each place seat at in
     let own : IsSeatOf new actor later = record {
       actor_is = ap (λ l. l.actor) makes.makes.lane ∙ stood.actor_is ∙ sym here;
