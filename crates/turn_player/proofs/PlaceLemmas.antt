@@ -1,7 +1,9 @@
 -- Where turns stand in a plan.
-use Rattle.std.proofs.Common.{◌≡◌, ◌≢◌, ◌<◌, ◌≤◌, ℕ, List, length, Option, Some, None, refl, sym, ap, ◌∙◌, subst, arith}
+use Rattle.std.proofs.Common.{◌≡◌, ◌≢◌, ◌<◌, ◌≤◌, ◌+◌, ℕ, List, ◌∷◌, length, drop, All, Option, Some, None, refl, sym, ap, ◌∙◌, subst, arith}
 use Rattle.std.specs.Prelude.{IfNone, IfSome, slice_get, slice_index_or}
 use Rattle.std.proofs.lemmas.Option.{get_or_from_slice_get, none-some, same_Some, slice_get_read, slice_get_within}
+use Rattle.std.proofs.lemmas.List.{drop_more}
+use Rattle.std.proofs.lemmas.List.Elements.{All-cons}
 use Rattle.call_journal.specs.declared.event.CallerEvent.{CallerEvent}
 use Rattle.call_journal.specs.declared.plan.Count.{Count}
 use Rattle.call_journal.specs.declared.plan.Listed.{Listed}
@@ -21,7 +23,7 @@ use Rattle.channel_calls.specs.ChannelPlans.{HasChannelPlan, HasNext, HasUp}
 use Rattle.turn_steps.specs.MadeSteps.{CanStep}
 use Rattle.turn_player.specs.TurnPlans.{IsSeat, IsUp, SeatView, UpView}
 use Rattle.turn_player.specs.DueEvents.{IsOf}
-use Rattle.turn_player.specs.TableSeats.{AreDone, AreSeated, IsBy, IsDone, IsDue, IsSeatOf, IsSweepNext}
+use Rattle.turn_player.specs.TableSeats.{AreDone, AreSeated, HasNoLineLeft, IsBy, IsDone, IsDue, IsSeatOf, IsSweepNext}
 use Rattle.turn_player.specs.TablePlaces.{IsFreePlace, IsHoldAt, IsMisplaced, IsPlace, IsSweepListed, IsSweepPlace, IsTurnPlace, IsUpAt, IsUpHere}
 use Rattle.turn_player.proofs.TurnLemmas.{pins_of}
 use Rattle.turn_player.specs.declared.turn_places.Place.{Place}
@@ -178,6 +180,25 @@ beyond n many less more = omega (arith, less, more)
 pub no_seat : (lists : List (List Listed)) (plan : Option (List (List Listed))) (actor line : ℕ) (book : BookView) (seats : List SeatView) → plan ≡ Some lists → HasActors plan (length book.counts) → length seats ≤ actor
     → AreSeated book seats → IsDue lists actor line book → line ≢ 0 → ⊥
 no_seat lists plan actor line book seats is has few seated due nonzero = beyond actor (length seats) (due_has_seat lists plan actor line book seats is has due seated) few
+
+-- ---- the lines that are left
+
+-- none is at a seat for which nothing is listed next
+pub nothing_left : (plan : List (List Listed)) (seat now : SeatView) (found : Option Listed) → seat ≡ now → seat.up ≡ None
+    → ((listed : Listed) → seat.lane.count.pins ≡ 0 → IsListed plan seat.lane.actor seat.lane.count listed → found ≡ Some listed) → found ≡ None → HasNoLineLeft plan now
+nothing_left plan seat now found same free some none =
+    subst (λ (s : SeatView). HasNoLineLeft plan s) same (record {
+      up = subst (λ (o : Option UpView). IfSome o (λ up. up.line ≡ 0)) (sym free) tt;
+      next = λ listed empty pins is. absurd (none-some listed (sym none ∙ some listed pins is));
+    })
+
+-- none is at any seat if none is at those before this one, at this one and at those behind it
+pub left_on : (plan : List (List Listed)) (seats : List SeatView) (i : ℕ) (seat : SeatView) → slice_get seats i ≡ Some seat → HasNoLineLeft plan seat → (All (HasNoLineLeft plan) (drop i seats) → All (HasNoLineLeft plan) seats)
+    → All (HasNoLineLeft plan) (drop (i + 1) seats) → All (HasNoLineLeft plan) seats
+left_on plan seats i seat at none before rest =
+    let is : drop i seats ≡ seat ∷ drop (i + 1) seats =
+    drop_more seats i seat (slice_get_within seats i seat at) ∙ ap (λ (s : SeatView). s ∷ drop (i + 1) seats) (get_or_from_slice_get seats i seat seat at) in
+    before (subst (λ (ss : List SeatView). All (HasNoLineLeft plan) ss) (sym is) (All-cons (HasNoLineLeft plan) seat (drop (i + 1) seats) none rest))
 
 -- ---- the last sweep
 

@@ -4,7 +4,7 @@ ghost use Rattle.call_journal.specs.declared.plan.Listed.{Listed as ListedOne};
 ghost use Rattle.book_progress.specs.PlayedPlans.{IsListed};
 ghost use Rattle.channel_calls.specs.ChannelPlans.{HasNext};
 ghost use Rattle.turn_player.specs.TurnPlans.{IsTurnPlan};
-ghost use Rattle.turn_player.specs.TableSeats.{IsDone};
+ghost use Rattle.turn_player.specs.TableSeats.{HasNoLineLeft, IsDone};
 ghost use Rattle.turn_player.specs.TablePlaces.{IsFreePlace, IsPlace, IsSweepListed, IsSweepPlace};
 
 use crate::lane_seats::Seat;
@@ -60,7 +60,8 @@ fn misplaced_in(list: &[Listed], line: u32, next: Option<u32>) -> Misplaced {
 #[tactic(auto, using(crate::proofs::PlaceLemmas::up_is_done))]
 pub(crate) fn left_at<J: Job>(plan: &Plan, seat: &Seat<J>) -> Option<u32>
     requires plan { IsTurnPlan J.plan (length J.boot.authorities) plan.now.actors }
-    ensures { IsDone plan.now.actors seat.now → result ≡ None }
+    ensures done { IsDone plan.now.actors seat.now → result ≡ None }
+    ensures left { result ≡ None → HasNoLineLeft plan.now.actors seat.now }
 {
     let line = match &seat.up {
         Some(up) => up.at.line,

@@ -1,5 +1,5 @@
 //! Turns, played one after another.
-ghost use Rattle.std.specs.Prelude.{◌≡◌, ◌≢◌, ◌⊎◌, ◌++◌, ◌∷◌, [], All, length, map, slice_get, Err, IfOk, IsOk, None, Ok, OnOk, Some};
+ghost use Rattle.std.specs.Prelude.{◌≡◌, ◌≢◌, ◌↔◌, ◌⊎◌, ◌++◌, ◌∷◌, [], All, length, map, slice_get, Err, IfOk, IsOk, None, Ok, OnOk, Some};
 ghost use Rattle.call_journal.specs.declared.plan.ListedEvent.TheVariants as ListedValue;
 ghost use Rattle.book_progress.specs.ProgressKept.{most_entries};
 ghost use Rattle.channel_calls.specs.ChannelPlans.{HasChannelPlan, HasNext};
@@ -8,7 +8,7 @@ ghost use Rattle.turn_steps.specs.MadeSteps.{CanStep};
 ghost use Rattle.turn_steps.specs.declared.halts.Halt.TheVariants as Halted;
 ghost use Rattle.turn_player.specs.TurnPlans.{IsTurnPlan, SeatView as SeatValue, UpView as UpValue};
 ghost use Rattle.turn_player.specs.DueEvents.{IsOf, event_of, texts_in};
-ghost use Rattle.turn_player.specs.TableSeats.{AreDone, AreLeft, AreSeated, IsDone, IsDue, IsSweepNext, IsTurnPlayed, free_seat};
+ghost use Rattle.turn_player.specs.TableSeats.{AreDone, AreLeft, AreSeated, HasNoLineLeft, IsDone, IsDue, IsSweepNext, IsTurnPlayed, free_seat};
 ghost use Rattle.turn_player.specs.TablePlaces.{IsNextOn, IsSweepPlace, IsTurnMade, IsTurnPlace, PlaysOnce};
 
 use crate::due_events::{Due, due_of};
@@ -68,7 +68,7 @@ fn put_lane<J: Job>(lanes: &mut Vec<Lane<J>>, seat: Seat<J>) -> Result<(), Memor
 
 /// The lesser of two lines, or the only one.
 fn first_line(one: Option<u32>, other: Option<u32>) -> Option<u32>
-    ensures { one ≡ None → other ≡ None → result ≡ None }
+    ensures { (result ≡ None) ↔ (one ≡ None) × (other ≡ None) }
 {
     match (one, other) {
         (Some(one), Some(other)) => Some(one.min(other)),
@@ -117,7 +117,8 @@ impl<J: Job, L: Ledger> Table<J, L> {
     /// The first line that isn't played to its end, if there is one.
     pub fn left_line(&self, plan: &Plan) -> Option<u32>
         requires plan { IsTurnPlan J.plan (length J.boot.authorities) plan.now.actors }
-        ensures { AreDone plan.now.actors self.now → result ≡ None }
+        ensures done { AreDone plan.now.actors self.now → result ≡ None }
+        ensures left { result ≡ None → All (HasNoLineLeft plan.now.actors) self.now }
     {
         let mut first = None;
         for seat in &self.seats {
