@@ -1,0 +1,3 @@
+pub mod StoppedLemmas
+pub mod ShownLemmas
+pub mod ReplyProofs
