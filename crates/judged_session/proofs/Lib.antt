@@ -1,1 +1,3 @@
 pub mod SessionPlans
+pub mod JudgeLemmas
+pub mod PlayedLemmas

@@ -1,6 +1,13 @@
 //! The turns of a report, played on the Book of its session.
-ghost use Rattle.std.specs.Prelude.{◌≡◌, ◌<◌, length};
+ghost use Rattle.std.specs.Prelude.{◌≡◌, ◌<◌, ◌+◌, ℕ, List, length, map, IfOk};
+ghost use Rattle.std.specs.List.{range_with_len};
+ghost use Rattle.call_journal.specs.declared.entry.Entry.{Entry as EntryValue};
+ghost use Rattle.session_lines.specs.declared.session.Session.{Session as SessionValue};
+ghost use Rattle.text_law.specs.TextLaw.{text_of};
+ghost use Rattle.xds_book.specs.BookEntries.{first_lane};
 ghost use Rattle.turn_player.specs.TurnPlans.{IsTurnPlan};
+ghost use Rattle.report_replay.specs.ReplayedTurns.{IsLegalReplay};
+ghost use Rattle.judged_session.specs.JudgedTurns.{IsFirst, IsWholeOutcome};
 
 use crate::trials::Trial;
 use header_match::Patterns;
@@ -43,11 +50,13 @@ pub(crate) fn play_report<J: Job, L: Ledger, R: Wait + Sync, P: Patterns>(
     requires parts { blank.parts ≡ L.parts }
     requires some { 0 < blank.parts }
     requires plan { IsTurnPlan J.plan (length J.boot.authorities) trial.now.plan.actors }
+    ensures whole { IfOk result (λ outcome. (session : SessionValue) (history : List EntryValue) (callers : ℕ) → IsLegalReplay J.plan J.boot J.target session history trial.now.plan.actors → text_of session history ≡ trial.now.report.now → IsFirst callers book.old → lanes ≡ map first_lane (range_with_len 0 (callers + 1)) → P.refused patterns.new ≡ P.refused patterns.old → IsWholeOutcome history book.new outcome) }
 {
     let steps = Steps::<L>::new(blank);
     let table = Table::new(trial.alloc, lanes, steps)?;
     let mut replay = Replay::new(&trial.plan, table, trial.report);
     let mistake = replay.play_all(rt, book, patterns)?;
+    let _actors = book.actors();
     match mistake {
         Some(mistake) => Ok(Outcome::Stopped(mistake)),
         None => {

@@ -1,6 +1,9 @@
 //! The Book of a session.
-ghost use Rattle.std.specs.Prelude.{◌≡◌};
+ghost use Rattle.std.specs.Prelude.{◌≡◌, ◌+◌, map, IfOk};
+ghost use Rattle.std.specs.List.{range_with_len};
 ghost use Rattle.session_player.specs.Stages.{IsOfSession};
+ghost use Rattle.xds_book.specs.BookEntries.{first_lane};
+ghost use Rattle.judged_session.specs.JudgedTurns.{IsFirst};
 
 use call_journal::Plan;
 use cluster_tree::Snapshot;
@@ -21,6 +24,8 @@ pub(crate) fn begin_book<J: Job>(
 ) -> Result<(Book<J>, List<Lane<J>>), Memory>
     requires of { IsOfSession J.plan J.boot J.target session.now plan.now.actors }
     requires archive { archive ≡ J.archive }
+    ensures book { IfOk result (λ begun. IsFirst session.now.callers begun.0) }
+    ensures lanes { IfOk result (λ begun. begun.1 ≡ map first_lane (range_with_len 0 (session.now.callers + 1))) }
 {
     let _plan = plan;
     let boot = session.boot.clone()?;

@@ -1,10 +1,16 @@
 //! A report of a session is judged.
-ghost use Rattle.std.specs.Prelude.{◌≡◌, ◌<◌, None, Ok};
+ghost use Rattle.std.specs.Prelude.{◌≡◌, ◌<◌, ℕ, List, All, IfOk, None, Ok};
+ghost use Rattle.session_lines.specs.Session.{session_of};
+ghost use Rattle.call_journal.specs.declared.entry.Entry.{Entry as EntryValue};
+ghost use Rattle.legal_history.specs.Legal.{Legal};
+ghost use Rattle.text_law.specs.TextLaw.{text_of};
+ghost use Rattle.turn_law.specs.TurnLaw.{IsTurn};
 ghost use Rattle.session_plan.specs.PlanOfSession.{plan_of};
 ghost use Rattle.session_plan.specs.ReadablePayloads.{is_response};
 ghost use Rattle.report_compare.specs.LegalReports.{IsReportOf};
 ghost use Rattle.session_player.specs.Stages.{IsOfSession};
 ghost use Rattle.session_shape.specs.SessionShape.{IsWellFormed};
+ghost use Rattle.judged_session.specs.JudgedTurns.{IsWhole};
 
 use crate::played_reports::{Outcome, WholePlay, play_report};
 use crate::session_book::begin_book;
@@ -53,8 +59,10 @@ fn judge_whole<J: Job, L: Ledger, R: Wait + Sync>(
     requires some { 0 < blank.parts }
     requires of { IsOfSession J.plan J.boot J.target trial.session.now trial.plan.actors }
     ensures legal { result ≡ Ok None → IsReportOf trial.entry.session.now trial.entry.report.now }
+    ensures found { IfOk result (λ mistake. (history : List EntryValue) → Legal trial.entry.session.now history → text_of trial.entry.session.now history ≡ trial.entry.report.now → IsWhole history book whole.lanes.items → mistake ≡ None) }
 {
     let WholePlay { lanes, line } = whole;
+    let _actors = book.actors();
     let Some(lanes) = split_lanes(lanes) else {
         return Ok(Some(Mistake::stuck(line)));
     };
@@ -96,6 +104,7 @@ fn judge_by<J: Job, L: Ledger, R: Wait + Sync, P: Patterns>(
     requires of { IsOfSession J.plan J.boot J.target trial.session.now trial.plan.actors }
     requires archive { archive ≡ J.archive }
     ensures legal { result ≡ Ok None → IsReportOf trial.entry.session.now trial.entry.report.now }
+    ensures found { IfOk result (λ mistake. (history : List EntryValue) → Legal trial.entry.session.now history → All IsTurn history → text_of trial.entry.session.now history ≡ trial.entry.report.now → P.refused patterns.new ≡ P.refused patterns.old → mistake ≡ None) }
 {
     let (book, lanes) = begin_book::<J>(trial.alloc, trial.session, &trial.plan, archive)?;
     let mut book = book;
@@ -123,6 +132,7 @@ fn judge_planned<R: Wait + Sync, P: Patterns>(
     requires formed { IsWellFormed trial.session.now }
     requires plan { trial.plan.actors ≡ plan_of is_response trial.session.now }
     ensures legal { result ≡ Ok None → IsReportOf trial.entry.session.now trial.entry.report.now }
+    ensures found { IfOk result (λ mistake. (history : List EntryValue) → Legal trial.entry.session.now history → All IsTurn history → text_of trial.entry.session.now history ≡ trial.entry.report.now → P.refused patterns.new ≡ P.refused patterns.old → mistake ≡ None) }
 {
     judge_by::<Brand, Brand, R, P>(rt, Blank::new(1), trial, archive, patterns)
 }
@@ -139,6 +149,7 @@ pub fn judge_session<R: Wait + Sync, P: Patterns>(
 ) -> Result<Option<Mistake>, Memory>
     requires formed { IsWellFormed session.now }
     ensures legal { result ≡ Ok None → IsReportOf session.now report.now }
+    ensures found { IfOk result (λ mistake. (bytes : List ℕ) → session_of bytes ≡ Ok session.now → IsReportOf session.now report.now → P.refused patterns.new ≡ P.refused patterns.old → mistake ≡ None) }
 {
     let plan = plan_session(alloc, session)?;
     let archive = Shared::new(alloc, Archive::new(alloc)?)?;

@@ -1,11 +1,13 @@
 -- What bytes that are no session are answered.
-use Rattle.std.proofs.Common.{◌≡◌, ℕ, ◌⊎◌, inl, inr, List, Result, Ok, Err, refl, sym, ap, ◌∙◌}
+use Rattle.std.proofs.Common.{◌≡◌, ℕ, ◌⊎◌, inl, inr, List, Option, None, Result, Ok, Err, refl, sym, ap, subst, ◌∙◌}
 use Rattle.session_lines.specs.Session.{Fails, Refusal, session_of}
 use Rattle.session_lines.specs.declared.cause.Cause.{Cause}
 use Rattle.session_lines.specs.declared.cause.SessionFault.{SessionFault}
 use Rattle.session_lines.specs.declared.cause.SessionFault.TheVariants as fault
 use Rattle.session_lines.specs.declared.session.Session.{Session}
-use Rattle.report_judge.specs.Verdicts.{refusal_of}
+use Rattle.report_compare.specs.LegalReports.{IsReportOf}
+use Rattle.report_compare.specs.declared.mistakes.Mistake.{Mistake}
+use Rattle.report_judge.specs.Verdicts.{IsLegalReport, refusal_of}
 use Rattle.report_judge.specs.declared.verdicts.Verdict.{Verdict}
 use Rattle.report_judge.specs.declared.verdicts.Verdict.TheVariants as verdict
 
@@ -24,3 +26,28 @@ pub fault_told : (bytes : List ℕ) (e : SessionFault) → Fails e (session_of b
     → (refusal_of e ≡ verdict.Session line cause) ⊎ (refusal_of e ≡ verdict.Memory)
 fault_told bytes (fault.Script l c) fails line cause refusal = inl (ap verdict_of (sym fails ∙ refusal))
 fault_told bytes fault.Memory fails line cause refusal = inr refl
+
+-- what was read isn't both a fault and a value
+pub err-ok : {A E : Type 0} {read : Result A E} {fault : E} {value : A} → read ≡ Err fault → read ≡ Ok value → ⊥
+err-ok fails reads = absurd (cc (sym fails ∙ reads))
+
+-- bytes that spell a session have no fault
+pub no_fault : (bytes : List ℕ) (e : SessionFault) → Fails e (session_of bytes) → (session : Session) → session_of bytes ≡ Ok session → (refusal_of e ≡ verdict.Legal) ⊎ (refusal_of e ≡ verdict.Memory)
+no_fault bytes (fault.Script l c) fails session spells = absurd (err-ok fails spells)
+no_fault bytes fault.Memory fails session spells = inr refl
+
+-- ---- reports
+
+-- a value that was read, or another one
+abbrev value_or : {A E : Type 0} → A → Result A E → A
+value_or other (Ok value) = value
+value_or other (Err fault) = other
+
+same_value : {A E : Type 0} (read : Result A E) (one other : A) → read ≡ Ok one → read ≡ Ok other → other ≡ one
+same_value {A = A} {E = E} read one other is also = ap (λ (r : Result A E). value_or one r) (sym also ∙ is)
+
+-- where the report of each history is found legal, a legal report has no mistake
+pub no_mistake_in : (bytes report : List ℕ) (session : Session) (mistake : Option Mistake) (Same : Type 0) → session_of bytes ≡ Ok session
+    → ((other : List ℕ) → session_of other ≡ Ok session → IsReportOf session report → Same → mistake ≡ None) → IsLegalReport bytes report → Same → mistake ≡ None
+no_mistake_in bytes report session mistake Same spells found legal same =
+    found bytes spells (subst (λ (s : Session). IsReportOf s report) (same_value (session_of bytes) session legal.session spells legal.spells) legal.report) same

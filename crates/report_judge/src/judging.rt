@@ -24,6 +24,9 @@ pub fn judge<R: Wait + Sync, P: Patterns>(
     // The bytes spell a session, and the report is that of a legal history of it.
     ensures legal { result ≡ Verdict.Legal → IsLegalReport session.now report.now }
 
+    // The report of a legal history of it is found legal, unless memory runs out or the builder of patterns refuses a text.
+    ensures found { IsLegalReport session.now report.now → P.refused patterns.new ≡ P.refused patterns.old → (result ≡ Verdict.Legal) ⊎ (result ≡ Verdict.Memory) }
+
     // The bytes are no session, and this is the first fault.
     ensures session { (line : ℕ) (cause : Cause) → result ≡ Verdict.Session line cause → session_of session.now ≡ Err record { line = line; cause = cause } }
 

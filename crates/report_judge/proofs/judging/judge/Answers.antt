@@ -1,5 +1,7 @@
-use Rattle.std.proofs.Common.{sym, ◌∙◌}
-use Rattle.report_judge.proofs.Refusals.{fault_told, told_fault}
+use Rattle.std.proofs.Common.{◌≡◌, Ok, Option, None, inl, inr, refl, sym, ap, ◌∙◌}
+use Rattle.std.proofs.lemmas.Option.{none-some}
+use Rattle.report_compare.specs.declared.mistakes.Mistake.{Mistake}
+use Rattle.report_judge.proofs.Refusals.{err-ok, fault_told, no_fault, no_mistake_in, told_fault}
 use Rattle.report_judge.proofs.judging.judge.Goals as goal
 
 pub returns-in-Err-clause-session : goal.returns-in-Err-clause-session
@@ -9,3 +11,51 @@ returns-in-Err-clause-session g c = λ line cause same.
 pub returns-in-Err-clause-refused : goal.returns-in-Err-clause-refused
 returns-in-Err-clause-refused g c = λ line cause refusal.
     rw c.refusal_of.ensures (fault_told c.args.session.now c.in-Err.fault c.in-Err.ensures.gives line cause refusal)
+
+pub returns-in-Err-clause-found : goal.returns-in-Err-clause-found
+returns-in-Err-clause-found g c = λ legal same.
+    rw c.refusal_of.ensures (no_fault c.args.session.now c.in-Err.fault c.in-Err.ensures.gives legal.session legal.spells)
+
+pub returns-in-Ok-Some-clause-found : goal.returns-in-Ok-Some-clause-found
+returns-in-Ok-Some-clause-found g c = λ legal same.
+    let none : c.in-Ok-Some.field-0 ≡ None =
+    no_mistake_in c.args.session.now c.args.report.now c.in-Ok.session c.in-Ok-Some.field-0 (g.P.Patterns.refused c.judge_session.new.patterns ≡ g.P.Patterns.refused c.args.patterns.now) c.in-Ok.ensures.gives c.in-Ok-Some.ensures.found legal
+    same in
+    absurd (none-some c.in-Ok-Some.mistake (sym none ∙ c.in-Ok-Some.field-0-is))
+
+pub returns-in-Ok-None-clause-found : goal.returns-in-Ok-None-clause-found
+returns-in-Ok-None-clause-found g c = λ legal same. inl refl
+
+pub returns-clause-found : goal.returns-clause-found
+returns-clause-found g c = λ legal same. inr refl
+
+pub returns-in-Ok-None-clause-legal : goal.returns-in-Ok-None-clause-legal
+returns-in-Ok-None-clause-legal g c = λ same. record {
+  session = c.in-Ok.session;
+  spells = c.in-Ok.ensures.gives;
+  report = c.judge_session.ensures.legal (c.in-Ok-None.is ∙ ap (λ (m : Option Mistake). Ok m) c.in-Ok-None.field-0-is);
+}
+
+pub returns-in-Ok-None-clause-session : goal.returns-in-Ok-None-clause-session
+returns-in-Ok-None-clause-session g c = λ line cause same. absurd (cc same)
+
+pub returns-in-Ok-None-clause-refused : goal.returns-in-Ok-None-clause-refused
+returns-in-Ok-None-clause-refused g c = λ line cause refusal. absurd (err-ok refusal c.in-Ok.ensures.gives)
+
+pub returns-in-Ok-Some-clause-legal : goal.returns-in-Ok-Some-clause-legal
+returns-in-Ok-Some-clause-legal g c = λ same. absurd (cc same)
+
+pub returns-in-Ok-Some-clause-session : goal.returns-in-Ok-Some-clause-session
+returns-in-Ok-Some-clause-session g c = λ line cause same. absurd (cc same)
+
+pub returns-in-Ok-Some-clause-refused : goal.returns-in-Ok-Some-clause-refused
+returns-in-Ok-Some-clause-refused g c = λ line cause refusal. absurd (err-ok refusal c.in-Ok.ensures.gives)
+
+pub returns-clause-legal : goal.returns-clause-legal
+returns-clause-legal g c = λ same. absurd (cc same)
+
+pub returns-clause-session : goal.returns-clause-session
+returns-clause-session g c = λ line cause same. absurd (cc same)
+
+pub returns-clause-refused : goal.returns-clause-refused
+returns-clause-refused g c = λ line cause refusal. inr refl

@@ -1,0 +1,22 @@
+use Rattle.std.proofs.Common.{◌≡◌, ℕ, List, All, Option, None, Ok}
+use Rattle.call_journal.specs.declared.entry.Entry.{Entry}
+use Rattle.session_lines.specs.Session.{session_of}
+use Rattle.legal_history.specs.Legal.{Legal}
+use Rattle.text_law.specs.TextLaw.{text_of}
+use Rattle.turn_law.specs.TurnLaw.{IsTurn}
+use Rattle.turn_law.proofs.PlayedTurns.{legal_are_turns}
+use Rattle.report_compare.specs.LegalReports.{IsReportOf}
+use Rattle.report_compare.specs.declared.mistakes.Mistake.{Mistake}
+use Rattle.report_replay.proofs.PlayLemmas.{if_ok}
+use Rattle.judged_session.proofs.session_judging.judge_session.Goals as goal
+
+pub returns-clause-found : goal.returns-clause-found
+returns-clause-found g c =
+    if_ok
+    (λ (m : Option Mistake). (history : List Entry) → Legal c.args.session.now history → All IsTurn history → text_of c.args.session.now history ≡ c.args.report.now
+    → g.P.Patterns.refused c.judge_planned.new.patterns ≡ g.P.Patterns.refused c.args.patterns.now → m ≡ None)
+    (λ (m : Option Mistake). (bytes : List ℕ) → session_of bytes ≡ Ok c.args.session.now → IsReportOf c.args.session.now c.args.report.now
+    → g.P.Patterns.refused c.judge_planned.new.patterns ≡ g.P.Patterns.refused c.args.patterns.now → m ≡ None)
+    c.judge_planned.result
+    (λ m holds bytes spells is same. holds is.history is.legal (legal_are_turns bytes c.args.session.now is.history spells is.legal) is.text_is same)
+    c.judge_planned.ensures.found
