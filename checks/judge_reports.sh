@@ -1,7 +1,7 @@
 # Judges reports with xds_judge: the stored reports of examples/ and of the corpus, those that xds_replay writes of the same
 # sessions on threads, and damaged ones, which get the recorded answer, and, where there is a reference program, its answer:
-# 100 of them, or as many as DAMAGED says. Each example of examples/damaged/ is told as the file beside it says. Words that
-# aren't two files, files that can't be read and bytes that are no session have their status and their message.
+# 100 of them, or as many as DAMAGED says. Each report of examples/damaged/ and of tests/judged/ is told as the file beside it
+# says. Words that aren't two files, files that can't be read and bytes that are no session have their status and their message.
 set -euo pipefail
 cd "$(dirname "$0")/.."
 program=$(bash tools/built.sh xds_judge)

@@ -2,8 +2,8 @@
 
 JUDGE is xds_judge, which is called with the file of a session and that of a report. It finds legal the stored report of
 each example, the 355 reports of the corpus, and what REPLAY, which is xds_replay, writes of the same sessions on threads and
-of generated ones. Of a session that is refused it tells the first fault. Of each example of examples/damaged/ it tells the mistake
-that stands in the file beside it.
+of generated ones. Of a session that is refused it tells the first fault. Of each example of examples/damaged/, and of each
+report of tests/judged/, whose sessions stand there too, it tells the mistake that stands in the file beside it.
 
 Damaged reports have another number, name or order, or a line or an entry too few or too many, or entries of two actors are
 exchanged. The corpus has 60, of which the answer is recorded. REFERENCE is the folder of a reference, which judges reports
@@ -203,10 +203,11 @@ def judge_refused(judge):
 
 
 def judge_examples(judge):
-    """Judges the damaged reports that stand as examples."""
-    for path in sorted((EXAMPLES / "damaged").glob("*.report")):
-        text = (EXAMPLES / f"{path.stem.partition('.')[0]}.session").read_bytes()
-        judge.expect(path.stem, text, path.read_text(), NOT_LEGAL, path.with_suffix(".mistake").read_text())
+    """Judges the damaged reports that stand as examples, and those of the sessions that stand beside them in tests/judged/."""
+    for damaged_reports, sessions in ((EXAMPLES / "damaged", EXAMPLES), (HERE / "judged", HERE / "judged")):
+        for path in sorted(damaged_reports.glob("*.report")):
+            text = (sessions / f"{path.stem.partition('.')[0]}.session").read_bytes()
+            judge.expect(path.stem, text, path.read_text(), NOT_LEGAL, path.with_suffix(".mistake").read_text())
     judge.tell("examples of damage")
 
 

@@ -96,6 +96,7 @@ at_sweep session past plays none walked =
     record {
       callers = caller_ends session past plays walked;
       driven = λ list get. driver_ends (count_of 0 past) own list last (some_same own list get);
+      listed = record { list = own; actor_is = refl; next_is = last.next };
       next = record {
         listed = listed_sweep;
         is = record { list = own; actor_is = refl; next_is = last.next };

@@ -12,7 +12,8 @@ use Rattle.xds_history.specs.Right.{Right}
 use Rattle.legal_history.specs.Legal.{Legal}
 use Rattle.session_shape.specs.SessionShape.{AreLines}
 use Rattle.book_progress.specs.ActorCounts.{count_of, with_ended}
-use Rattle.book_progress.specs.PlayedPlans.{IsNextOf, IsPlanPlayed, Step, all_ended, driver}
+use Rattle.book_progress.specs.PlayedPlans.{IsListed, IsNextOf, IsPlanPlayed, Step, all_ended, driver}
+use Rattle.sweep_law.specs.SweepLaw.{listed_sweep}
 
 -- no entry is the last sweep, which alone is of line 0
 abbrev pub HasNoSweep : List Entry → Type 0
@@ -33,6 +34,7 @@ pub record GoesOn (plan : List (List Listed)) (past : List Entry) : Type 0 where
 pub record IsAtSweep (plan : List (List Listed)) (past : List Entry) : Type 0 where
   pub callers : (caller : ℕ) (list : List Listed) → 1 ≤ caller → slice_get plan caller ≡ Some list → count_of caller past ≡ all_ended list
   pub driven : (list : List Listed) → slice_get plan 0 ≡ Some list → with_ended (count_of 0 past) ≡ all_ended list
+  pub listed : IsListed plan 0 (count_of 0 past) listed_sweep
   pub next : IsNextOf plan 0 (count_of 0 past) 0 (driver DriverEvent.Sweep) past
 
 -- entries that play the plan of a session can be played on, where none of them is the last sweep

@@ -1,3 +1,5 @@
 pub mod SessionPlans
 pub mod JudgeLemmas
 pub mod PlayedLemmas
+pub mod PlayedOutLemmas
+pub mod WrongLines

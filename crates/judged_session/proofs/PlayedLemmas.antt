@@ -1,55 +1,44 @@
--- What came of the turns of a legal history's report.
-use Rattle.std.proofs.Common.{◌≡◌, ◌+◌, ℕ, List, length, map, All, Option, Some, subst}
+-- What came of the turns of a report.
+use Rattle.std.proofs.Common.{◌≡◌, ◌⊎◌, ◌<◌, ◌+◌, ℕ, List, map, Option, None, Some, subst, inl, inr}
 use Rattle.std.specs.List.{range_with_len}
 use Rattle.call_journal.specs.declared.entry.Entry.{Entry}
 use Rattle.call_journal.specs.declared.plan.Listed.{Listed}
 use Rattle.xds_bootstrap.specs.declared.bootstrap.Bootstrap.{Bootstrap}
 use Rattle.xds_name.specs.declared.target.Target.{Target}
 use Rattle.session_lines.specs.declared.session.Session.{Session}
+use Rattle.completion_law.specs.CompletionLaw.{HasNoSweep}
 use Rattle.text_law.specs.TextLaw.{text_of}
+use Rattle.alike_law.specs.AlikeTexts.{Parting, PartsAt}
 use Rattle.report_compare.specs.declared.mistakes.Mistake.{Mistake}
 use Rattle.xds_book.specs.BookEntries.{first_lane}
-use Rattle.xds_book.specs.BookKept.{HasActors}
 use Rattle.xds_book.specs.BookViews.{BookView, LaneView}
 use Rattle.turn_player.specs.TurnPlans.{SeatView}
-use Rattle.turn_player.specs.TableSeats.{AreDone, free_seat}
-use Rattle.report_replay.specs.ReplayedTurns.{HasRead, HasReplayed, IsLegalReplay, IsReplayed, ReplayView}
+use Rattle.turn_player.specs.TableSeats.{free_seat}
+use Rattle.report_replay.specs.ReplayedTurns.{HasNoneLeft, HasRead, HasReplayed, IsBeyond, IsLegalReplay, IsPlayedByAny, IsReplayed, ReplayView}
 use Rattle.report_replay.proofs.BeginLemmas.{begins}
-use Rattle.report_replay.proofs.PlayLemmas.{seats_are_done}
-use Rattle.judged_session.specs.JudgedTurns.{IsFirst, IsWhole, IsWholeOutcome}
-use Rattle.judged_session.specs.declared.played_reports.Outcome.{Outcome}
-use Rattle.judged_session.specs.declared.played_reports.Outcome.TheVariants as outcome
-use Rattle.judged_session.specs.declared.played_reports.WholePlay.{WholePlay}
+use Rattle.judged_session.specs.JudgedTurns.{IsFirst, IsWhole}
 
 -- before the first turn
 pub play_begins : (plan : Option (List (List Listed))) (boot : Bootstrap) (target : Target) (session : Session) (history : List Entry) (lists : List (List Listed)) (callers : ℕ) (book : BookView) (lanes : List LaneView)
-    (seats : List SeatView) (report : List ℕ) (replay : ReplayView) → IsLegalReplay plan boot target session history lists → text_of session history ≡ report → IsFirst callers book → lanes ≡ map first_lane (range_with_len 0 (callers + 1))
-    → seats ≡ map free_seat lanes → HasRead lists seats report replay → HasReplayed session history 0 book replay
-play_begins plan boot target session history lists callers book lanes seats report replay legal text first lanes_are seats_are read =
-    begins plan boot target session history lists (callers + 1) first.room book lanes seats report replay legal text first.is lanes_are seats_are read
+    (seats : List SeatView) (report : List ℕ) (replay : ReplayView) (number : ℕ) (parts : PartsAt number report (text_of session history)) → IsLegalReplay plan boot target session history lists → 0 < number → IsFirst callers book
+    → lanes ≡ map first_lane (range_with_len 0 (callers + 1)) → seats ≡ map free_seat lanes → HasRead lists seats report replay → HasReplayed session history parts.parting 0 book replay
+play_begins plan boot target session history lists callers book lanes seats report replay number parts legal some first lanes_are seats_are read =
+    begins plan boot target session history lists (callers + 1) first.room book lanes seats report replay number parts legal some first.is lanes_are seats_are read
 
--- after the last one
-pub whole_play : (plan : Option (List (List Listed))) (boot : Bootstrap) (target : Target) (session : Session) (history : List Entry) (lists : List (List Listed)) (mistake : Option Mistake) (book : BookView) (seats : List SeatView)
-    (lanes : List LaneView) → IsLegalReplay plan boot target session history lists → HasActors plan (length book.counts) → IsReplayed history mistake book seats
-    → (All (λ (seat : SeatView). seat.lane.count.pins ≡ 0) seats → lanes ≡ map (λ (seat : SeatView). seat.lane) seats) → IsWhole history book lanes
-whole_play plan boot target session history lists mistake book seats lanes legal actors replayed lanes_are =
-    let done : AreDone lists seats = seats_are_done plan boot target session history lists replayed.made book seats legal actors replayed.swept in
-    record {
-      seats = seats;
-      made = replayed.made;
-      swept = replayed.swept;
-      lanes_are = lanes_are (λ k d within. (done k d within).free);
-    }
+-- ---- after the last one, by the mistake that was found
 
-pub no_mistake : (history : List Entry) (mistake : Mistake) (book : BookView) (seats : List SeatView) → IsReplayed history (Some mistake) book seats → ⊥
-no_mistake history mistake book seats replayed = absurd (cc replayed.none)
+pub beside_none : (session : Session) (history : List Entry) (parting : Parting) (found : Option Mistake) (book : BookView) (seats : List SeatView) → IsReplayed session history parting found book seats
+    → IsWhole history book ⊎ IsBeyond session history parting book
+beside_none session history parting found book seats (inl to) = inl (record { seats = seats; swept = to.swept })
+beside_none session history parting found book seats (inr beyond) = inr beyond
 
--- ---- what came of them
+pub beside_some : (session : Session) (history : List Entry) (parting : Parting) (found : Option Mistake) (mistake : Mistake) (book : BookView) (seats : List SeatView) → found ≡ Some mistake
+    → IsReplayed session history parting found book seats → IsBeyond session history parting book
+beside_some session history parting found mistake book seats is (inl to) = absurd (cc (is, to.none))
+beside_some session history parting found mistake book seats is (inr beyond) = beyond
 
--- all was played
-pub in_whole : {J : Type 0} (history : List Entry) (book : BookView) (came : Outcome J) (play : WholePlay J) → came ≡ outcome.Whole play → IsWholeOutcome history book came → IsWhole history book play.lanes.items
-in_whole history book came play is whole = subst (λ c. IsWholeOutcome history book c) is whole
+pub any_none : (plan : List (List Listed)) (book : BookView) (seats : List SeatView) (found : Option Mistake) → found ≡ None → IsPlayedByAny plan book seats found → HasNoneLeft plan book seats
+any_none plan book seats found is any = subst (λ f. IsPlayedByAny plan book seats f) is any
 
--- there is no mistake
-pub not_stopped : {J : Type 0} (history : List Entry) (book : BookView) (came : Outcome J) (mistake : Mistake) → came ≡ outcome.Stopped mistake → IsWholeOutcome history book came → ⊥
-not_stopped history book came mistake is whole = subst (λ c. IsWholeOutcome history book c) is whole
+pub any_some : (plan : List (List Listed)) (book : BookView) (seats : List SeatView) (found : Option Mistake) (mistake : Mistake) → found ≡ Some mistake → IsPlayedByAny plan book seats found → HasNoSweep book.entries
+any_some plan book seats found mistake is any = subst (λ f. IsPlayedByAny plan book seats f) is any

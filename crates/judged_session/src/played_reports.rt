@@ -4,10 +4,12 @@ ghost use Rattle.std.specs.List.{range_with_len};
 ghost use Rattle.call_journal.specs.declared.entry.Entry.{Entry as EntryValue};
 ghost use Rattle.session_lines.specs.declared.session.Session.{Session as SessionValue};
 ghost use Rattle.text_law.specs.TextLaw.{text_of};
+ghost use Rattle.alike_law.specs.AlikeTexts.{PartsAt};
 ghost use Rattle.xds_book.specs.BookEntries.{first_lane};
+ghost use Rattle.session_player.specs.Stages.{IsOfSession};
 ghost use Rattle.turn_player.specs.TurnPlans.{IsTurnPlan};
 ghost use Rattle.report_replay.specs.ReplayedTurns.{IsLegalReplay};
-ghost use Rattle.judged_session.specs.JudgedTurns.{IsFirst, IsWholeOutcome};
+ghost use Rattle.judged_session.specs.JudgedTurns.{IsAnyOutcome, IsBesideOutcome, IsFirst};
 
 use crate::trials::Trial;
 use header_match::Patterns;
@@ -19,20 +21,11 @@ use turn_player::Table;
 use xc_base::{List, Memory, Steps};
 use xds_book::{Book, Job, Lane};
 
-/// All that is listed was played.
-#[derive(Drop)]
-pub(crate) struct WholePlay<J: Job> {
-    /// The lanes, the driver's first.
-    pub(crate) lanes: Vec<Lane<J>>,
-    /// The line at which the report's turns end, from 1.
-    pub(crate) line: u32,
-}
-
 /// What came of the turns of a report.
 #[derive(Drop)]
 pub(crate) enum Outcome<J: Job> {
-    /// All that is listed was played.
-    Whole(WholePlay<J>),
+    /// All that is listed before the last sweep was played: the lanes, the driver's first.
+    Whole(Vec<Lane<J>>),
     /// The first turn that can't be played, or the end of a report whose turns don't play all that is listed.
     Stopped(Mistake),
 }
@@ -50,7 +43,8 @@ pub(crate) fn play_report<J: Job, L: Ledger, R: Wait + Sync, P: Patterns>(
     requires parts { blank.parts ≡ L.parts }
     requires some { 0 < blank.parts }
     requires plan { IsTurnPlan J.plan (length J.boot.authorities) trial.now.plan.actors }
-    ensures whole { IfOk result (λ outcome. (session : SessionValue) (history : List EntryValue) (callers : ℕ) → IsLegalReplay J.plan J.boot J.target session history trial.now.plan.actors → text_of session history ≡ trial.now.report.now → IsFirst callers book.old → lanes ≡ map first_lane (range_with_len 0 (callers + 1)) → P.refused patterns.new ≡ P.refused patterns.old → IsWholeOutcome history book.new outcome) }
+    ensures any { IfOk result (λ outcome. (session : SessionValue) (callers : ℕ) → IsOfSession J.plan J.boot J.target session trial.now.plan.actors → IsFirst callers book.old → lanes ≡ map first_lane (range_with_len 0 (callers + 1)) → IsAnyOutcome trial.now.plan.actors book.new outcome) }
+    ensures beside { IfOk result (λ outcome. (session : SessionValue) (history : List EntryValue) (callers number : ℕ) (parts : PartsAt number trial.now.report.now (text_of session history)) → IsLegalReplay J.plan J.boot J.target session history trial.now.plan.actors → 0 < number → IsFirst callers book.old → lanes ≡ map first_lane (range_with_len 0 (callers + 1)) → P.refused patterns.new ≡ P.refused patterns.old → IsBesideOutcome session history parts.parting book.new outcome) }
 {
     let steps = Steps::<L>::new(blank);
     let table = Table::new(trial.alloc, lanes, steps)?;
@@ -60,9 +54,8 @@ pub(crate) fn play_report<J: Job, L: Ledger, R: Wait + Sync, P: Patterns>(
     match mistake {
         Some(mistake) => Ok(Outcome::Stopped(mistake)),
         None => {
-            let line = replay.number();
             let lanes = replay.into_lanes()?;
-            Ok(Outcome::Whole(WholePlay { lanes, line }))
+            Ok(Outcome::Whole(lanes))
         }
     }
 }

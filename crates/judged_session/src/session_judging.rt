@@ -1,5 +1,5 @@
 //! A report of a session is judged.
-ghost use Rattle.std.specs.Prelude.{◌≡◌, ◌<◌, ℕ, List, All, IfOk, None, Ok};
+ghost use Rattle.std.specs.Prelude.{◌≡◌, ◌⊎◌, ◌<◌, ◌-◌, ℕ, List, All, IfOk, IfSome, None, Ok};
 ghost use Rattle.session_lines.specs.Session.{session_of};
 ghost use Rattle.call_journal.specs.declared.entry.Entry.{Entry as EntryValue};
 ghost use Rattle.legal_history.specs.Legal.{Legal};
@@ -7,12 +7,15 @@ ghost use Rattle.text_law.specs.TextLaw.{text_of};
 ghost use Rattle.turn_law.specs.TurnLaw.{IsTurn};
 ghost use Rattle.session_plan.specs.PlanOfSession.{plan_of};
 ghost use Rattle.session_plan.specs.ReadablePayloads.{is_response};
-ghost use Rattle.report_compare.specs.LegalReports.{IsReportOf};
+ghost use Rattle.completion_law.specs.CompletionLaw.{HasNoSweep};
+ghost use Rattle.report_replay.specs.ReplayedTurns.{IsBeyond};
+ghost use Rattle.report_compare.specs.FirstLines.{first_lines};
+ghost use Rattle.report_compare.specs.LegalReports.{BeginsReport, IsReportOf};
 ghost use Rattle.session_player.specs.Stages.{IsOfSession};
 ghost use Rattle.session_shape.specs.SessionShape.{IsWellFormed};
-ghost use Rattle.judged_session.specs.JudgedTurns.{IsWhole};
+ghost use Rattle.judged_session.specs.JudgedTurns.{IsAllPlayed, IsApart, IsWhole, IsWrongAt, IsWrongFor};
 
-use crate::played_reports::{Outcome, WholePlay, play_report};
+use crate::played_reports::{Outcome, play_report};
 use crate::session_book::begin_book;
 use crate::split_lanes::split_lanes;
 use crate::trials::Trial;
@@ -28,14 +31,20 @@ use std::marker::Brand;
 use std::sync::Wait;
 use std::sync::ledger::{Blank, Ledger};
 use xc_base::{List, Memory, Shared};
-use xds_book::{Book, Job};
+use xds_book::{Book, Job, Lane};
 
 /// The mistake of a report whose turns don't play all that is listed, where this Book was played.
 fn judge_stopped<J: Job>(
     trial: Trial<'_>,
     book: Book<J>,
     mistake: Mistake,
-) -> Result<Mistake, Memory> {
+) -> Result<Mistake, Memory>
+    requires of { IsOfSession J.plan J.boot J.target trial.session.now trial.plan.actors }
+    requires no_sweep { HasNoSweep book.entries }
+    ensures line { IfOk result (λ told. 0 < told.line) }
+    ensures above { IfOk result (λ told. BeginsReport trial.entry.session.now (first_lines (told.line - 1) trial.entry.report.now)) }
+    ensures wrong { IfOk result (λ told. IsApart trial.entry.session.now trial.entry.report.now told.line (λ history parting. IsBeyond trial.entry.session.now history parting book)) }
+{
     let (journal, history) = book.finish(List::new(trial.alloc));
     let part = PlayedPart {
         session: trial.session,
@@ -45,27 +54,28 @@ fn judge_stopped<J: Job>(
     compare_until(trial.alloc, part, trial.report, mistake)
 }
 
-/// Compares a report with what was played, where its turns play all that is listed. The last sweep is made here, whether or
-/// not the report has it.
+/// Compares a report with what was played, where its turns play all that is listed before the last sweep. That is made here,
+/// whether or not the report has it.
 fn judge_whole<J: Job, L: Ledger, R: Wait + Sync>(
     rt: &R,
     blank: Blank,
     trial: Trial<'_>,
     book: Book<J>,
-    whole: WholePlay<J>,
+    lanes: Vec<Lane<J>>,
 ) -> Result<Option<Mistake>, Memory>
     requires name { blank.name ≡ L.name }
     requires parts { blank.parts ≡ L.parts }
     requires some { 0 < blank.parts }
     requires of { IsOfSession J.plan J.boot J.target trial.session.now trial.plan.actors }
+    requires played { IsAllPlayed trial.plan.actors book lanes.items }
     ensures legal { result ≡ Ok None → IsReportOf trial.entry.session.now trial.entry.report.now }
-    ensures found { IfOk result (λ mistake. (history : List EntryValue) → Legal trial.entry.session.now history → text_of trial.entry.session.now history ≡ trial.entry.report.now → IsWhole history book whole.lanes.items → mistake ≡ None) }
+    ensures line { IfOk result (λ found. IfSome found (λ mistake. 0 < mistake.line)) }
+    ensures above { IfOk result (λ found. IfSome found (λ mistake. BeginsReport trial.entry.session.now (first_lines (mistake.line - 1) trial.entry.report.now))) }
+    ensures found { IfOk result (λ found. (history : List EntryValue) → Legal trial.entry.session.now history → text_of trial.entry.session.now history ≡ trial.entry.report.now → IsWhole history book → found ≡ None) }
+    ensures wrong { IfOk result (λ found. IfSome found (λ mistake. IsApart trial.entry.session.now trial.entry.report.now mistake.line (λ history parting. IsWhole history book ⊎ IsBeyond trial.entry.session.now history parting book))) }
 {
-    let WholePlay { lanes, line } = whole;
     let _actors = book.actors();
-    let Some(lanes) = split_lanes(lanes) else {
-        return Ok(Some(Mistake::stuck(line)));
-    };
+    let lanes = split_lanes(lanes);
     let Trial {
         alloc,
         session,
@@ -79,7 +89,7 @@ fn judge_whole<J: Job, L: Ledger, R: Wait + Sync>(
     };
     let played = match closed.report::<R, L>(rt, blank, lanes.driver) {
         Ok(played) => played,
-        Err(Stop::Strange) => return Ok(Some(Mistake::stuck(line))),
+        Err(Stop::Strange) => unreachable!(),
         Err(Stop::Memory) => return Err(AllocError),
     };
     let part = PlayedPart {
@@ -104,6 +114,9 @@ fn judge_by<J: Job, L: Ledger, R: Wait + Sync, P: Patterns>(
     requires of { IsOfSession J.plan J.boot J.target trial.session.now trial.plan.actors }
     requires archive { archive ≡ J.archive }
     ensures legal { result ≡ Ok None → IsReportOf trial.entry.session.now trial.entry.report.now }
+    ensures line { IfOk result (λ found. IfSome found (λ mistake. 0 < mistake.line)) }
+    ensures above { IfOk result (λ found. IfSome found (λ mistake. BeginsReport trial.entry.session.now (first_lines (mistake.line - 1) trial.entry.report.now))) }
+    ensures wrong { P.refused patterns.new ≡ P.refused patterns.old → IfOk result (λ found. IfSome found (λ mistake. IsWrongAt trial.entry.session.now trial.entry.report.now mistake.line)) }
     ensures found { IfOk result (λ mistake. (history : List EntryValue) → Legal trial.entry.session.now history → All IsTurn history → text_of trial.entry.session.now history ≡ trial.entry.report.now → P.refused patterns.new ≡ P.refused patterns.old → mistake ≡ None) }
 {
     let (book, lanes) = begin_book::<J>(trial.alloc, trial.session, &trial.plan, archive)?;
@@ -117,8 +130,11 @@ fn judge_by<J: Job, L: Ledger, R: Wait + Sync, P: Patterns>(
         patterns,
     )?;
     match outcome {
-        Outcome::Whole(whole) => judge_whole::<J, L, R>(rt, blank, trial, book, whole),
-        Outcome::Stopped(mistake) => Ok(Some(judge_stopped(trial, book, mistake)?)),
+        Outcome::Whole(lanes) => judge_whole::<J, L, R>(rt, blank, trial, book, lanes),
+        Outcome::Stopped(mistake) => {
+            let told = judge_stopped(trial, book, mistake)?;
+            Ok(Some(told))
+        }
     }
 }
 
@@ -132,6 +148,9 @@ fn judge_planned<R: Wait + Sync, P: Patterns>(
     requires formed { IsWellFormed trial.session.now }
     requires plan { trial.plan.actors ≡ plan_of is_response trial.session.now }
     ensures legal { result ≡ Ok None → IsReportOf trial.entry.session.now trial.entry.report.now }
+    ensures line { IfOk result (λ found. IfSome found (λ mistake. 0 < mistake.line)) }
+    ensures above { IfOk result (λ found. IfSome found (λ mistake. BeginsReport trial.entry.session.now (first_lines (mistake.line - 1) trial.entry.report.now))) }
+    ensures wrong { P.refused patterns.new ≡ P.refused patterns.old → IfOk result (λ found. IfSome found (λ mistake. IsWrongAt trial.entry.session.now trial.entry.report.now mistake.line)) }
     ensures found { IfOk result (λ mistake. (history : List EntryValue) → Legal trial.entry.session.now history → All IsTurn history → text_of trial.entry.session.now history ≡ trial.entry.report.now → P.refused patterns.new ≡ P.refused patterns.old → mistake ≡ None) }
 {
     judge_by::<Brand, Brand, R, P>(rt, Blank::new(1), trial, archive, patterns)
@@ -139,7 +158,7 @@ fn judge_planned<R: Wait + Sync, P: Patterns>(
 
 /// Judges a report of a session: the turns that its lines name are played on one thread, in their order, with the pattern
 /// texts refused that it lists, and what was played is compared with it. None is that it is the report of a legal history of
-/// the session; else it is the first mistake, or `Why::Stuck`. It fails for want of memory alone.
+/// the session; else it is the first mistake. It fails for want of memory alone.
 pub fn judge_session<R: Wait + Sync, P: Patterns>(
     rt: &R,
     alloc: Global,
@@ -149,6 +168,9 @@ pub fn judge_session<R: Wait + Sync, P: Patterns>(
 ) -> Result<Option<Mistake>, Memory>
     requires formed { IsWellFormed session.now }
     ensures legal { result ≡ Ok None → IsReportOf session.now report.now }
+    ensures line { IfOk result (λ found. IfSome found (λ mistake. 0 < mistake.line)) }
+    ensures above { IfOk result (λ found. IfSome found (λ mistake. BeginsReport session.now (first_lines (mistake.line - 1) report.now))) }
+    ensures wrong { P.refused patterns.new ≡ P.refused patterns.old → IfOk result (λ found. IfSome found (λ mistake. IsWrongFor session.now report.now mistake.line)) }
     ensures found { IfOk result (λ mistake. (bytes : List ℕ) → session_of bytes ≡ Ok session.now → IsReportOf session.now report.now → P.refused patterns.new ≡ P.refused patterns.old → mistake ≡ None) }
 {
     let plan = plan_session(alloc, session)?;

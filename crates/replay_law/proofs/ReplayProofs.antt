@@ -1,10 +1,9 @@
 -- An entry that is made in the turn of a legal history's own is that one: its line and step by the plan, its refused texts by
 -- the report, and the rest by both being right.
-use Rattle.std.proofs.Common.{◌≡◌, ℕ, List, ◌∷◌, ◌++◌, Some, ap, ◌∙◌, subst}
+use Rattle.std.proofs.Common.{◌≡◌, ℕ, List, ◌∷◌, subst}
 use Rattle.call_journal.specs.declared.entry.Entry.{Entry}
 use Rattle.call_journal.specs.declared.plan.Count.{Count}
 use Rattle.call_journal.specs.declared.plan.Listed.{Listed}
-use Rattle.session_lines.specs.Lines.{lines_of}
 use Rattle.session_lines.specs.declared.session.Session.{Session}
 use Rattle.session_plan.specs.PlanOfSession.{plan_of}
 use Rattle.session_plan.specs.ReadablePayloads.{is_response}
@@ -13,24 +12,15 @@ use Rattle.xds_history.specs.Responses.{refused_in}
 use Rattle.xds_history.specs.Right.{Right}
 use Rattle.xds_history.proofs.KeepProofs.{right_past}
 use Rattle.legal_history.specs.Legal.{Legal}
-use Rattle.listed_patterns.specs.ListedPatterns.{listed_from, listed_in}
 use Rattle.book_progress.specs.ActorCounts.{count_of}
 use Rattle.book_progress.specs.PlayedPlans.{IsNextOf, step_in}
 use Rattle.next_law.proofs.NextProofs.{own_next}
 use Rattle.next_law.proofs.PlayLemmas.{IsNextIn}
 use Rattle.entry_law.proofs.EntryProofs.{one_entry}
 use Rattle.entry_law.proofs.StepProofs.{next_alike}
-use Rattle.turn_law.specs.LinesBehind.{lines_behind}
-use Rattle.listed_law.proofs.ListedProofs.{listed_of_legal}
 use Rattle.replay_law.specs.ReplayLaw.{ReplayedIsOne}
 use Rattle.replay_law.proofs.PlayedNewest.{next_of_played}
 use Rattle.replay_law.proofs.AnsweredRefusals.{refused_alike}
-
--- what is left of the report behind an entry's first line lists what the entry refused
-listed_behind : (session : Session) (later past : List Entry) (e : Entry) (more : List ℕ) → Legal session (later ++ e ∷ past)
-    → lines_of more ≡ lines_behind (setting_of session.boot session.target) session.boot.authorities later (e ∷ past) → listed_in more ≡ Some (refused_in e.what)
-unfolding listed_in
-listed_behind session later past e more legal is = ap listed_from is ∙ listed_of_legal session later past e legal
 
 pub replayed_is_one : ReplayedIsOne
 replayed_is_one session later past e made legal h =
@@ -44,5 +34,5 @@ replayed_is_one session later past e made legal h =
     let same = next_alike next.is.list count next.listed own.listed made.line e.line (step_in made.what) (step_in e.what)
     next.is.next_is own.get next.line_is own.line next.step_is own.step in
     let refused : refused_in made.what ≡ refused_in e.what =
-    refused_alike session.boot session.target past e made h.more e.what made.what right.0 h.right.0 same.1 (listed_behind session later past e h.more legal h.more_is) h.refused in
+    refused_alike session.boot session.target past e made h.more e.what made.what right.0 h.right.0 same.1 h.listed h.refused in
     one_entry s past e made right h.right h.actor_is same.0 same.1 refused

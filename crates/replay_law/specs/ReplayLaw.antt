@@ -4,16 +4,15 @@ use Rattle.std.specs.Prelude.{◌≡◌, ℕ, List, ◌∷◌, ◌++◌, Some}
 use Rattle.xc_base.specs.declared.names.Kind.{Kind}
 use Rattle.call_journal.specs.declared.entry.Entry.{Entry}
 use Rattle.call_journal.specs.declared.entry.What.{What}
-use Rattle.session_lines.specs.Lines.{lines_of}
 use Rattle.session_lines.specs.declared.session.Session.{Session}
 use Rattle.session_plan.specs.PlanOfSession.{plan_of}
 use Rattle.session_plan.specs.ReadablePayloads.{is_response}
 use Rattle.xds_history.specs.Setting.{setting_of}
-use Rattle.xds_history.specs.Responses.{answered_kind}
+use Rattle.xds_history.specs.Responses.{answered_kind, refused_in}
 use Rattle.xds_history.specs.Right.{Right}
 use Rattle.legal_history.specs.Legal.{Legal}
 use Rattle.book_progress.specs.PlayedPlans.{IsPlayed}
-use Rattle.turn_law.specs.LinesBehind.{lines_behind}
+use Rattle.listed_patterns.specs.ListedPatterns.{listed_in}
 use Rattle.turn_steps.specs.ListedEvents.{ListsFor}
 
 -- an entry that answers a response tells as refused the texts that these lines list for it
@@ -23,18 +22,18 @@ RefusesAsListed lines (What.Driver event reply) =
 RefusesAsListed lines (What.Caller event reply) = Unit {0}
 
 -- An entry was made in the turn of `e`, over the entries before it: it is right there, it plays the plan of the session, it is
--- of the same actor, and it refuses what the report lists behind the first line of `e`.
-pub record IsReplayOf (session : Session) (later past : List Entry) (e made : Entry) : Type 0 where
+-- of the same actor, and it refuses what lines list for it that list what `e` refused.
+pub record IsReplayOf (session : Session) (past : List Entry) (e made : Entry) : Type 0 where
   pub right : Right (setting_of session.boot session.target) (made ∷ past)
   pub played : IsPlayed (Some (plan_of is_response session)) (made ∷ past)
   pub actor_is : made.actor ≡ e.actor
-  -- the bytes that are left of the report there
+  -- the bytes that are left of a report there
   pub more : List ℕ
-  pub more_is : lines_of more ≡ lines_behind (setting_of session.boot session.target) session.boot.authorities later (e ∷ past)
+  pub listed : listed_in more ≡ Some (refused_in e.what)
   pub refused : RefusesAsListed more made.what
 
 -- an entry that is made in the turn of an entry of a legal history is that entry
 abbrev pub ReplayedIsOne : Type 0
 ReplayedIsOne =
-    (session : Session) (later past : List Entry) (e made : Entry) → Legal session (later ++ e ∷ past) → IsReplayOf session later past e made
+    (session : Session) (later past : List Entry) (e made : Entry) → Legal session (later ++ e ∷ past) → IsReplayOf session past e made
     → made ≡ e

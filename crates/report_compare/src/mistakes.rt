@@ -33,13 +33,13 @@ pub struct Difference {
 /// The first line of a report that can't stand there, from 1, or from which the session can't be played on; and why.
 #[derive(Drop)]
 pub struct Mistake {
-    pub line: u32,
+    pub line: usize,
     pub why: Why,
 }
 
 impl Mistake {
     /// The session can't be played on from this line of the report.
-    pub fn stuck(line: u32) -> Mistake {
+    pub fn stuck(line: usize) -> Mistake {
         Mistake {
             line,
             why: Why::Stuck,

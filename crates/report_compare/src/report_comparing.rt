@@ -1,13 +1,17 @@
 //! A report is compared with what was played of its session.
-ghost use Rattle.std.specs.Prelude.{◌≡◌, ◌≤◌, ◌↔◌, length, IfOk, IsTrue, None, Ok, Some};
+ghost use Rattle.std.specs.Prelude.{◌≡◌, ◌≤◌, ◌<◌, ◌-◌, ◌↔◌, length, take, IfOk, IfSome, IsTrue, None, Ok, Some, string_bytes};
 ghost use Rattle.snapshot_store.specs.Tickets.{values_of};
 ghost use Rattle.xds_history.specs.Pages.{pages};
 ghost use Rattle.xds_history.specs.References.{snapshots_of};
 ghost use Rattle.xds_history.specs.Setting.{setting_of};
 ghost use Rattle.legal_history.specs.Legal.{Legal};
 ghost use Rattle.book_progress.specs.ProgressKept.{most_entries};
-ghost use Rattle.report_writer.specs.JournalReport.{journal_report};
+ghost use Rattle.report_text.specs.ReportLines.{end_line};
+ghost use Rattle.report_writer.specs.JournalReport.{entries_report, journal_report};
 ghost use Rattle.text_law.specs.TextLaw.{text_of};
+ghost use Rattle.front_law.specs.FrontLaw.{IsFrontOf};
+ghost use Rattle.session_lines.specs.Lines.{lines_of};
+ghost use Rattle.report_compare.specs.FirstLines.{first_lines};
 ghost use Rattle.report_compare.specs.LegalReports.{IsReportOf};
 
 use crate::mistakes::Mistake;
@@ -15,6 +19,7 @@ use crate::text_differences::{differs, stops};
 use call_journal::Journal;
 use cluster_tree::Snapshot;
 use report_law::one_report;
+use report_text::push_end_line;
 use report_writer::write_report;
 use session_lines::Session;
 use snapshot_store::History;
@@ -54,6 +59,38 @@ fn played_text(alloc: Global, part: PlayedPart<'_>) -> Result<BytesSink, Memory>
     }
 }
 
+/// A text without its last part.
+fn without_last<'a>(text: &'a [u8], last: &[u8]) -> &'a [u8]
+    requires { length last.now ≤ length text.now }
+    ensures { result.now ≡ take (length text.now - length last.now) text.now }
+{
+    text.split_at(text.len() - last.len()).0
+}
+
+/// The last line of the report of what was played.
+fn last_line(alloc: Global, part: PlayedPart<'_>) -> Result<String, Memory>
+    requires few { length part.history.now.tickets ≤ most_entries }
+    ensures { IfOk result (λ line. string_bytes line ≡ end_line (length part.entry.journal.now.entries) (length part.entry.history.now.tickets)) }
+{
+    let mut line = String::new(alloc);
+    push_end_line(
+        &mut line,
+        part.journal.len(),
+        part.history.tickets.len() as u32,
+    )?;
+    Ok(line)
+}
+
+/// Cuts the last line off the report of what was played.
+fn without_end<'a>(alloc: Global, part: PlayedPart<'_>, text: &'a [u8]) -> Result<&'a [u8], Memory>
+    requires few { length part.history.now.tickets ≤ most_entries }
+    requires text { text.now ≡ journal_report part.session.now.boot.authorities (values_of part.history.now.tickets) part.journal.now.entries }
+    ensures { IfOk result (λ left. left.now ≡ entries_report part.entry.session.now.boot.authorities (values_of part.entry.history.now.tickets) part.entry.journal.now.entries) }
+{
+    let end = last_line(alloc, part)?;
+    Ok(without_last(text, end.as_bytes()))
+}
+
 /// Compares a report with the text of a legal history, in which the actors act in the order of the report. None is that they
 /// are the same, and only that.
 pub fn compare(
@@ -66,6 +103,9 @@ pub fn compare(
     requires few { length part.history.now.tickets ≤ most_entries }
     ensures legal { result ≡ Ok None → IsReportOf part.entry.session.now report.now }
     ensures same { IfOk result (λ mistake. (mistake ≡ None) ↔ (text_of part.entry.session.now part.entry.journal.now.entries ≡ report.now)) }
+    ensures line { IfOk result (λ found. IfSome found (λ mistake. 0 < mistake.line)) }
+    ensures differs { IfOk result (λ found. IfSome found (λ mistake. first_lines mistake.line report.now ≡ first_lines mistake.line (text_of part.entry.session.now part.entry.journal.now.entries) → length (lines_of report.now) < mistake.line)) }
+    ensures above { IfOk result (λ found. IfSome found (λ mistake. IsFrontOf (first_lines (mistake.line - 1) report.now) (text_of part.entry.session.now part.entry.journal.now.entries))) }
 {
     one_report();
     let text = played_text(alloc, part)?;
@@ -76,8 +116,8 @@ pub fn compare(
     Ok(Some(mistake))
 }
 
-/// The mistake of a report whose turns end by a mistake, where this was played: that one, if what stands above it is the text
-/// of what was played, and else the first difference.
+/// The mistake of a report whose turns end by a mistake, where this was played: that one, if what stands above it begins the
+/// text of what was played, and else the first difference. That text has no last line.
 pub fn compare_until(
     alloc: Global,
     part: PlayedPart<'_>,
@@ -85,7 +125,11 @@ pub fn compare_until(
     mistake: Mistake,
 ) -> Result<Mistake, Memory>
     requires few { length part.history.now.tickets ≤ most_entries }
+    ensures line { IfOk result (λ told. 0 < told.line) }
+    ensures differs { IfOk result (λ told. first_lines told.line report.now ≡ first_lines told.line (entries_report part.entry.session.now.boot.authorities (values_of part.entry.history.now.tickets) part.entry.journal.now.entries) → length (lines_of report.now) < told.line) }
+    ensures above { IfOk result (λ told. IsFrontOf (first_lines (told.line - 1) report.now) (entries_report part.entry.session.now.boot.authorities (values_of part.entry.history.now.tickets) part.entry.journal.now.entries)) }
 {
     let text = played_text(alloc, part)?;
-    stops(alloc, report, text.bytes(), mistake)
+    let text = without_end(alloc, part, text.bytes())?;
+    stops(alloc, report, text, mistake)
 }

@@ -1,8 +1,10 @@
 //! A report is judged from its bytes and those of a session.
-ghost use Rattle.std.specs.Prelude.{◌≡◌, ◌⊎◌, ℕ, Err};
+ghost use Rattle.std.specs.Prelude.{◌≡◌, ◌⊎◌, ◌-◌, ℕ, Err};
 ghost use Rattle.session_lines.specs.Session.{session_of};
 ghost use Rattle.session_lines.specs.declared.cause.Cause.{Cause};
-ghost use Rattle.report_judge.specs.Verdicts.{IsLegalReport};
+ghost use Rattle.report_compare.specs.FirstLines.{first_lines};
+ghost use Rattle.report_compare.specs.declared.mistakes.Mistake.{Mistake as MistakeValue};
+ghost use Rattle.report_judge.specs.Verdicts.{BeginsLegalReport, GoesOnLegally, IsLegalReport};
 
 use crate::verdicts::{Verdict, refusal_of};
 use header_match::Patterns;
@@ -26,6 +28,12 @@ pub fn judge<R: Wait + Sync, P: Patterns>(
 
     // The report of a legal history of it is found legal, unless memory runs out or the builder of patterns refuses a text.
     ensures found { IsLegalReport session.now report.now → P.refused patterns.new ≡ P.refused patterns.old → (result ≡ Verdict.Legal) ⊎ (result ≡ Verdict.Memory) }
+
+    // The lines of the report above the one that is told begin the report of a legal history.
+    ensures above { (mistake : MistakeValue) → result ≡ Verdict.NotLegal mistake → BeginsLegalReport session.now (first_lines (mistake.line - 1) report.now) }
+
+    // No report of a legal history has the lines up to the one that is told, if the same patterns are listed behind these.
+    ensures wrong { (mistake : MistakeValue) → result ≡ Verdict.NotLegal mistake → P.refused patterns.new ≡ P.refused patterns.old → GoesOnLegally session.now report.now mistake.line → ⊥ }
 
     // The bytes are no session, and this is the first fault.
     ensures session { (line : ℕ) (cause : Cause) → result ≡ Verdict.Session line cause → session_of session.now ≡ Err record { line = line; cause = cause } }

@@ -10,7 +10,7 @@ use session_lines::{Cause, SessionFault};
 pub enum Verdict {
     /// It is that of a legal history of the session.
     Legal,
-    /// It isn't, or the session can't be played on (`Why::Stuck`, to which no way is known): the first mistake.
+    /// It isn't: the first line at which no such history's report goes on so that lists the same patterns, and why.
     NotLegal(Mistake),
     /// The bytes aren't a session: the first fault, and the number of its line.
     Session { line: u32, cause: Cause },

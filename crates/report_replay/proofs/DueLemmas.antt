@@ -1,17 +1,17 @@
 -- A turn of a legal history's report is due, and makes the entry of the history.
-use Rattle.std.proofs.Common.{◌≡◌, ◌≢◌, ◌≤◌, ◌<◌, ◌+◌, ℕ, List, [], ◌∷◌, ◌++◌, length, All, false, Option, Some, None, refl, sym, ap, ◌∙◌, subst, inl, inr, arith}
+use Rattle.std.proofs.Common.{◌≡◌, ◌≢◌, ℕ, List, [], ◌∷◌, ◌++◌, All, false, Option, Some, sym, ap, ◌∙◌, subst}
 use Rattle.std.proofs.lemmas.List.Elements.{All-head, All-tail}
 use Rattle.call_journal.specs.declared.entry.Entry.{Entry}
 use Rattle.call_journal.specs.declared.entry.What.{What}
 use Rattle.call_journal.specs.declared.plan.Listed.{Listed}
 use Rattle.config_assembly.specs.Orders.{Name}
 use Rattle.xc_base.specs.declared.names.Kind.{Kind}
-use Rattle.session_lines.specs.Lines.{lines_of}
+use Rattle.listed_patterns.specs.ListedPatterns.{listed_in}
 use Rattle.session_lines.specs.declared.session.Session.{Session}
 use Rattle.session_plan.specs.PlanOfSession.{plan_of}
 use Rattle.session_plan.specs.ReadablePayloads.{is_response}
 use Rattle.session_shape.specs.SessionShape.{AreLines}
-use Rattle.xds_history.specs.Responses.{answered_kind, refused_in}
+use Rattle.xds_history.specs.Responses.{refused_in}
 use Rattle.xds_history.specs.Right.{Right}
 use Rattle.xds_history.specs.Setting.{setting_of}
 use Rattle.legal_history.specs.Legal.{Legal}
@@ -22,12 +22,10 @@ use Rattle.sweep_law.proofs.LastProofs.{sweep_is_last}
 use Rattle.replay_law.specs.ReplayLaw.{RefusesAsListed}
 use Rattle.replay_law.proofs.ReplayProofs.{replayed_is_one}
 use Rattle.turn_law.specs.TurnLaw.{IsActor, IsTurn}
-use Rattle.turn_steps.specs.ListedEvents.{ListsFor}
 use Rattle.turn_player.specs.DueEvents.{told_by, told_where}
-use Rattle.turn_player.specs.TableSeats.{IsBy, IsDue, IsTurnPlayed, ListsIn}
+use Rattle.turn_player.specs.TableSeats.{IsBy, IsDue, ListsIn}
 use Rattle.xds_book.specs.BookEntries.{entry_of}
 use Rattle.xds_book.specs.BookViews.{BookView}
-use Rattle.report_replay.specs.ReplayedTurns.{lines_left}
 
 -- an entry among others is a turn
 pub turn_at : (later : List Entry) (e : Entry) (past : List Entry) → All IsTurn (later ++ e ∷ past) → IsTurn e
@@ -69,13 +67,13 @@ tells_listed (What.Caller event reply) lines refused = tt
 -- the entry that is made is that of the history
 pub made_is : (session : Session) (later past : List Entry) (e : Entry) (what : What) (actor line : ℕ) (more : List ℕ) → Legal session (later ++ e ∷ past)
     → Right (setting_of session.boot session.target) (entry_of actor line what ∷ past) → IsPlayed (Some (plan_of is_response session)) (entry_of actor line what ∷ past) → actor ≡ e.actor
-    → lines_of more ≡ lines_left session later (e ∷ past) → ((listed : List Name) → ListsIn what more listed → refused_in what ≡ told_by what listed) → entry_of actor line what ≡ e
-made_is session later past e what actor line more h right plays own left refused =
+    → listed_in more ≡ Some (refused_in e.what) → ((listed : List Name) → ListsIn what more listed → refused_in what ≡ told_by what listed) → entry_of actor line what ≡ e
+made_is session later past e what actor line more h right plays own listed refused =
     replayed_is_one session later past e (entry_of actor line what) h (record {
       right = right;
       played = plays;
       actor_is = own;
       more = more;
-      more_is = left;
+      listed = listed;
       refused = tells_listed what more refused;
     })

@@ -3,3 +3,4 @@ pub mod SweepLemmas
 pub mod DueLemmas
 pub mod PlayLemmas
 pub mod BeginLemmas
+pub mod AnyLemmas

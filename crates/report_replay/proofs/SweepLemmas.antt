@@ -1,5 +1,5 @@
 -- The last sweep of a legal history, whose other turns have been played.
-use Rattle.std.proofs.Common.{◌≡◌, ◌<◌, ◌≤◌, ℕ, zero, suc, List, [], ◌∷◌, ◌++◌, length, All, get_or, Option, Some, refl, sym, ap, ◌∙◌, subst, arith}
+use Rattle.std.proofs.Common.{◌≡◌, ◌<◌, ℕ, zero, suc, List, [], ◌∷◌, length, get_or, Some, refl, sym, ap, ◌∙◌, subst, arith}
 use Rattle.std.specs.Prelude.{slice_get}
 use Rattle.std.proofs.lemmas.Option.{slice_get-get_or, slice_get_within}
 use Rattle.call_journal.specs.declared.entry.Entry.{Entry}
@@ -17,7 +17,7 @@ use Rattle.sweep_law.specs.SweepLaw.{listed_sweep}
 use Rattle.sweep_law.proofs.SweepProofs.{sweep_is_listed, sweep_stands}
 use Rattle.xds_book.specs.BookViews.{BookView}
 use Rattle.turn_player.specs.TurnPlans.{SeatView}
-use Rattle.turn_player.specs.TableSeats.{AreDone, AreSeated, IsDone, IsSeatOf, IsSweepNext}
+use Rattle.turn_player.specs.TableSeats.{AreDone, IsSeatOf, IsSweepNext}
 use Rattle.turn_player.proofs.PlaceLemmas.{one_listed}
 use Rattle.report_replay.specs.ReplayedTurns.{HasCome}
 

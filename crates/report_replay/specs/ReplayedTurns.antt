@@ -1,6 +1,6 @@
--- How far the turns of a legal history's report have been played on a Book (this project's own). Histories have the newest entry
--- first: of `later ++ past` the entries `later` come after those of `past`.
-use Rattle.std.specs.Prelude.{◌≡◌, ◌≢◌, ◌+◌, ◌⊎◌, ℕ, List, [], ◌∷◌, ◌++◌, All, length, drop, false, Option, None, Some, Result, Ok, Err, IsErr, IsOk}
+-- How far the turns of a report have been played on a Book, beside those of a legal history's report (this project's own).
+-- Histories have the newest entry first: of `later ++ past` the entries `later` come after those of `past`.
+use Rattle.std.specs.Prelude.{◌≡◌, ◌≢◌, ◌⊎◌, ℕ, ◌==◌, if◌then◌else◌, List, [], ◌∷◌, ◌++◌, All, length, drop, true, false, Option, None, Some, Result, Ok, Err, IsErr, IsOk}
 use Rattle.call_journal.specs.declared.entry.Entry.{Entry}
 use Rattle.call_journal.specs.declared.plan.Listed.{Listed}
 use Rattle.config_assembly.specs.Orders.{Name}
@@ -9,9 +9,14 @@ use Rattle.xds_name.specs.declared.target.Target.{Target}
 use Rattle.session_lines.specs.Lines.{lines_of}
 use Rattle.session_lines.specs.declared.session.Session.{Session}
 use Rattle.session_player.specs.Stages.{IsOfSession}
+use Rattle.xds_history.specs.Responses.{refused_in}
 use Rattle.xds_history.specs.Setting.{setting_of}
 use Rattle.legal_history.specs.Legal.{Legal}
+use Rattle.completion_law.specs.CompletionLaw.{HasNoSweep}
 use Rattle.turn_law.specs.LinesBehind.{lines_behind}
+use Rattle.listed_patterns.specs.ListedPatterns.{listed_in}
+use Rattle.report_turns.specs.TurnLines.{goes_on}
+use Rattle.alike_law.specs.AlikeTexts.{Parting}
 use Rattle.turn_law.specs.TurnLaw.{IsTurn}
 use Rattle.report_turns.specs.declared.entry_turns.EntryTurn.{EntryTurn}
 use Rattle.std.specs.declared.alloc.AllocError.{AllocError}
@@ -20,7 +25,7 @@ use Rattle.turn_steps.specs.declared.halts.Halt.{Halt}
 use Rattle.turn_steps.specs.declared.halts.Halt.TheVariants as halt
 use Rattle.report_compare.specs.declared.mistakes.Mistake.{Mistake}
 use Rattle.turn_player.specs.TurnPlans.{SeatView}
-use Rattle.turn_player.specs.TableSeats.{AreSeated}
+use Rattle.turn_player.specs.TableSeats.{AreSeated, HasNoLineLeft}
 use Rattle.xds_book.specs.BookViews.{BookView}
 use Rattle.report_replay.specs.declared.replaying.Next.{Next}
 use Rattle.report_replay.specs.declared.replaying.Next.TheVariants as next
@@ -55,36 +60,49 @@ pub record HasCome (past : List Entry) (book : BookView) (seats : List SeatView)
 abbrev pub lines_left : Session → List Entry → List Entry → List (List ℕ)
 lines_left session later past = lines_behind (setting_of session.boot session.target) session.boot.authorities later past
 
--- so many of the history's first entries are made, and others are left
-pub record IsPlaying (session : Session) (history : List Entry) (made : ℕ) (book : BookView) (replay : ReplayView) : Type 0 where
+-- So many of the history's first entries are made, and others are left. Of the lines that its report and the one that is read have
+-- in common some are left, and then those of each alone.
+pub record IsAlong (session : Session) (history : List Entry) (parting : Parting) (made : ℕ) (book : BookView) (replay : ReplayView) : Type 0 where
   pub later : List Entry
   pub past : List Entry
   pub whole : later ++ past ≡ history
   pub left : later ≢ []
   pub many : made ≡ length past
   pub come : HasCome past book replay.seats
-  pub lines_are : replay.lines ≡ lines_left session later past
+  pub before : List (List ℕ)
+  pub common : List (List ℕ)
+  pub split : parting.common ≡ before ++ common
+  pub lines_are : replay.lines ≡ common ++ parting.one
+  pub legal_are : lines_left session later past ≡ common ++ parting.other
+
+-- The common lines are those of the history's first entries. Whatever else was made, these entries were made first.
+pub record IsBeyond (session : Session) (history : List Entry) (parting : Parting) (book : BookView) : Type 0 where
+  pub later : List Entry
+  pub past : List Entry
+  pub whole : later ++ past ≡ history
+  pub left : later ≢ []
+  pub more : List Entry
+  pub entries : book.entries ≡ more ++ past
+  pub before : List (List ℕ)
+  pub common : List (List ℕ)
+  pub split : parting.common ≡ before ++ common
+  pub legal_are : lines_left session later past ≡ common ++ parting.other
+  pub on : All (λ line. goes_on line ≡ true) common
 
 -- all entries are made but the last sweep, whose turn was read
-pub record HasSwept (history : List Entry) (made : ℕ) (book : BookView) (seats : List SeatView) : Type 0 where
+pub record HasSwept (history : List Entry) (book : BookView) (seats : List SeatView) : Type 0 where
   pub sweep : Entry
   pub past : List Entry
   pub whole : sweep ∷ past ≡ history
-  pub many : made ≡ length past + 1
   pub come : HasCome past book seats
 
--- so it is, and the lines behind the last sweep's first one are left
-pub record IsSwept (session : Session) (history : List Entry) (made : ℕ) (book : BookView) (replay : ReplayView) : Type 0 where
-  pub swept : HasSwept history made book replay.seats
-  pub lines_are : replay.lines ≡ lines_left session [] history
-
-abbrev pub HasReplayed : Session → List Entry → ℕ → BookView → ReplayView → Type 0
-HasReplayed session history made book replay = IsPlaying session history made book replay ⊎ IsSwept session history made book replay
+abbrev pub HasReplayed : Session → List Entry → Parting → ℕ → BookView → ReplayView → Type 0
+HasReplayed session history parting made book replay = IsAlong session history parting made book replay ⊎ IsBeyond session history parting book
 
 -- ---- one turn
 
--- of the entries that are left this is the oldest one's turn, and these lines are behind it
-pub record IsTurnOf (session : Session) (history : List Entry) (made : ℕ) (turn : EntryTurn) (book : BookView) (replay : ReplayView) : Type 0 where
+-- Of the entries that are left this is the oldest one's turn. The lines behind it list the texts which that entry refused.
+pub record IsTurnOf (session : Session) (history : List Entry) (parting : Parting) (made : ℕ) (turn : EntryTurn) (book : BookView) (replay : ReplayView) : Type 0 where
   pub later : List Entry
   pub entry : Entry
   pub past : List Entry
@@ -93,41 +111,76 @@ pub record IsTurnOf (session : Session) (history : List Entry) (made : ℕ) (tur
   pub come : HasCome past book replay.seats
   pub actor_is : turn.actor ≡ entry.actor
   pub line_is : turn.line ≡ entry.line
-  pub more : lines_of turn.more.now ≡ lines_left session later (entry ∷ past)
-  pub lines_are : replay.lines ≡ lines_left session later (entry ∷ past)
+  pub listed : listed_in turn.more.now ≡ Some (refused_in entry.what)
+  pub before : List (List ℕ)
+  pub common : List (List ℕ)
+  pub split : parting.common ≡ before ++ common
+  pub lines_are : replay.lines ≡ common ++ parting.one
+  pub legal_are : lines_left session later (entry ∷ past) ≡ common ++ parting.other
 
--- one turn more is played, if the builder of patterns has refused no text
-abbrev pub HasPlayedOn : Session → List Entry → ℕ → List Name → List Name → BookView → ReplayView → Type 0
-HasPlayedOn session history made told tells book replay = tells ≡ told → HasReplayed session history made book replay
+-- it is the turn of such an entry, or one behind the common lines
+abbrev pub IsTurnIn : Session → List Entry → Parting → ℕ → EntryTurn → BookView → ReplayView → Type 0
+IsTurnIn session history parting made turn book replay = IsTurnOf session history parting made turn book replay ⊎ IsBeyond session history parting book
 
--- all is played
-pub record IsAtEnd (history : List Entry) (book : BookView) (replay : ReplayView) : Type 0 where
-  pub made : ℕ
-  pub swept : HasSwept history made book replay.seats
+-- what comes next: no turn is wrong while common lines are left, if the builder of patterns has refused no text
+abbrev pub IsNextOfReplay : Session → List Entry → Parting → ℕ → List Name → List Name → BookView → ReplayView → Next → Type 0
+IsNextOfReplay session history parting made told tells book replay next.Played = tells ≡ told → HasReplayed session history parting made book replay
+IsNextOfReplay session history parting made told tells book replay next.End = HasSwept history book replay.seats ⊎ IsBeyond session history parting book
+IsNextOfReplay session history parting made told tells book replay (next.Wrong mistake) = IsBeyond session history parting book
 
--- what comes next in the report of a legal history: nothing is wrong
-abbrev pub IsNextOfReplay : Session → List Entry → ℕ → List Name → List Name → BookView → ReplayView → Next → Type 0
-IsNextOfReplay session history made told tells book replay next.Played = HasPlayedOn session history made told tells book replay
-IsNextOfReplay session history made told tells book replay next.End = IsAtEnd history book replay
-IsNextOfReplay session history made told tells book replay (next.Wrong mistake) = ⊥
+-- the last sweep, which is of line 0, is the last turn
+abbrev pub next_made : ℕ → Next
+next_made line = if line == 0 then next.End else next.Played
 
--- what comes of a turn that was to be played
-abbrev pub IsNextAfter : Result (Option Misplaced) Halt → Result Next AllocError → Type 0
-IsNextAfter (Ok None) result = result ≡ Ok next.Played
-IsNextAfter (Ok (Some why)) result = IsOk result
-IsNextAfter (Err halt.Strange) result = IsOk result
-IsNextAfter (Err halt.Memory) result = IsErr result
-
--- the report's turns end, and they play all that is listed
-abbrev pub IsEnd : Next → Type 0
-IsEnd next.Played = ⊥
-IsEnd next.End = Unit {0}
-IsEnd (next.Wrong mistake) = ⊥
+-- what comes of a turn of this line that was to be played
+abbrev pub IsNextAfter : ℕ → Result (Option Misplaced) Halt → Result Next AllocError → Type 0
+IsNextAfter line (Ok None) result = result ≡ Ok (next_made line)
+IsNextAfter line (Ok (Some why)) result = IsOk result
+IsNextAfter line (Err halt.Strange) result = IsOk result
+IsNextAfter line (Err halt.Memory) result = IsErr result
 
 -- ---- all turns
 
 -- no mistake was found, and all is played but the last sweep
-pub record IsReplayed (history : List Entry) (mistake : Option Mistake) (book : BookView) (seats : List SeatView) : Type 0 where
-  pub none : mistake ≡ None
-  pub made : ℕ
-  pub swept : HasSwept history made book seats
+pub record IsSweptTo (history : List Entry) (found : Option Mistake) (book : BookView) (seats : List SeatView) : Type 0 where
+  pub none : found ≡ None
+  pub swept : HasSwept history book seats
+
+abbrev pub IsReplayed : Session → List Entry → Parting → Option Mistake → BookView → List SeatView → Type 0
+IsReplayed session history parting found book seats = IsSweptTo history found book seats ⊎ IsBeyond session history parting book
+
+-- ---- the turns of any report
+
+-- the seats are those of the Book, which takes more entries, and no entry is the last sweep
+pub record IsUnderWay (book : BookView) (seats : List SeatView) : Type 0 where
+  pub seated : AreSeated book seats
+  pub goes_on : book.is_spent ≡ false
+  pub no_sweep : HasNoSweep book.entries
+
+-- no line of the session is left to be played
+pub record HasNoneLeft (plan : List (List Listed)) (book : BookView) (seats : List SeatView) : Type 0 where
+  pub under_way : IsUnderWay book seats
+  pub none : All (HasNoLineLeft plan) seats
+
+-- what comes next in any report
+abbrev pub IsNextOfAny : List (List Listed) → BookView → List SeatView → Next → Type 0
+IsNextOfAny plan book seats next.Played = IsUnderWay book seats
+IsNextOfAny plan book seats next.End = HasNoneLeft plan book seats
+IsNextOfAny plan book seats (next.Wrong mistake) = HasNoSweep book.entries
+
+-- the turn can't be played
+abbrev pub IsWrong : Next → Type 0
+IsWrong next.Played = ⊥
+IsWrong next.End = ⊥
+IsWrong (next.Wrong mistake) = Unit {0}
+
+-- the report's turns end, and no line is left at any seat, or one is
+abbrev pub IsEndOfAny : List (List Listed) → List SeatView → Next → Type 0
+IsEndOfAny plan seats next.Played = ⊥
+IsEndOfAny plan seats next.End = All (HasNoLineLeft plan) seats
+IsEndOfAny plan seats (next.Wrong mistake) = Unit {0}
+
+-- what came of all turns of any report
+abbrev pub IsPlayedByAny : List (List Listed) → BookView → List SeatView → Option Mistake → Type 0
+IsPlayedByAny plan book seats None = HasNoneLeft plan book seats
+IsPlayedByAny plan book seats (Some mistake) = HasNoSweep book.entries

@@ -1,11 +1,11 @@
 //! The turns of a report, played one after another.
-ghost use Rattle.std.specs.Prelude.{◌≡◌, ◌+◌, ℕ, List, All, length, map, IfOk};
+ghost use Rattle.std.specs.Prelude.{◌≡◌, ◌≢◌, ◌+◌, ℕ, List, All, length, map, IfOk, None, Ok};
 ghost use Rattle.call_journal.specs.declared.entry.Entry.{Entry as EntryValue};
 ghost use Rattle.session_lines.specs.declared.session.Session.{Session};
 ghost use Rattle.turn_steps.specs.ListedEvents.{TellsOn};
 ghost use Rattle.turn_player.specs.TurnPlans.{IsTurnPlan};
-ghost use Rattle.turn_player.specs.TableSeats.{AreDone};
-ghost use Rattle.report_replay.specs.ReplayedTurns.{HasRead, HasReplayed, IsEnd, IsNextOfReplay, IsLegalReplay, IsNextAfter, IsReplayed, IsTurnOf};
+ghost use Rattle.alike_law.specs.AlikeTexts.{ListsAlike, Parting};
+ghost use Rattle.report_replay.specs.ReplayedTurns.{HasRead, HasReplayed, IsEndOfAny, IsNextOfAny, IsNextOfReplay, IsLegalReplay, IsNextAfter, IsPlayedByAny, IsReplayed, IsTurnIn, IsUnderWay, IsWrong};
 
 use call_journal::Plan;
 use header_match::Patterns;
@@ -41,21 +41,24 @@ impl<'p, 'r, J: Job, L: Ledger> Model for Replay<'p, 'r, J, L> {
 enum Next {
     /// A turn was played.
     Played,
-    /// The report's turns end, and they play all that is listed.
+    /// The last sweep was read, or the report's turns end; and all that is listed before the last sweep is played.
     End,
     /// The turn can't be played, or the turns end too early.
     Wrong(Mistake),
 }
 
-/// What comes of a turn that was to be played. The numbers are those of the report's line and of the session's.
+/// What comes of a turn that was to be played. The numbers are those of the report's line and of the session's, which is 0 for
+/// the last sweep.
 fn next_after(
-    number: u32,
+    number: usize,
     line: u32,
     played: Result<Option<Misplaced>, Halt>,
 ) -> Result<Next, Memory>
-    ensures { IsNextAfter played result }
+    ensures after { IsNextAfter line played result }
+    ensures wrong { played ≢ Ok None → IfOk result IsWrong }
 {
     match played {
+        Ok(None) if line == 0 => Ok(Next::End),
         Ok(None) => Ok(Next::Played),
         Ok(Some(why)) => Ok(Next::Wrong(Mistake {
             line: number,
@@ -78,11 +81,6 @@ impl<'p, 'r, J: Job, L: Ledger> Replay<'p, 'r, J, L> {
         }
     }
 
-    /// The number of the report's line that was found last, from 1.
-    pub fn number(&self) -> u32 {
-        self.turns.number()
-    }
-
     /// The lanes of actors that have no pin up, in the order of the actors.
     pub fn into_lanes(self) -> Result<Vec<Lane<J>>, Memory>
         ensures { IfOk result (λ lanes. All (λ seat. seat.lane.count.pins ≡ 0) self.entry.seats → lanes.items ≡ map (λ seat. seat.lane) self.entry.seats) }
@@ -102,10 +100,11 @@ impl<'p, 'r, J: Job, L: Ledger> Replay<'p, 'r, J, L> {
         ensures plan { self.new.plan ≡ self.old.plan }
         ensures lines { self.new.lines ≡ self.old.lines }
         ensures tells { IfOk result (λ next. TellsOn (P.refused patterns.old) (P.refused patterns.new)) }
-        ensures right { IfOk result (λ next. (session : Session) (history : List EntryValue) (made : ℕ) → IsLegalReplay J.plan J.boot J.target session history self.old.plan → IsTurnOf session history made turn.entry book.old self.old → IsNextOfReplay session history (made + 1) (P.refused patterns.old) (P.refused patterns.new) book.new self.new next) }
+        ensures any { IfOk result (λ next. IsUnderWay book.old self.old.seats → IsNextOfAny self.old.plan book.new self.new.seats next) }
+        ensures right { IfOk result (λ next. (session : Session) (history : List EntryValue) (parting : Parting) (made : ℕ) → IsLegalReplay J.plan J.boot J.target session history self.old.plan → IsTurnIn session history parting made turn.entry book.old self.old → IsNextOfReplay session history parting (made + 1) (P.refused patterns.old) (P.refused patterns.new) book.new self.new next) }
     {
         let _actors = book.actors();
-        let number = self.turns.number();
+        let number = self.turns.number() as usize;
         let played = self.table.play(rt, book, self.plan, turn, patterns);
         let _after = book.actors();
         next_after(number, turn.line, played)
@@ -114,12 +113,12 @@ impl<'p, 'r, J: Job, L: Ledger> Replay<'p, 'r, J, L> {
     /// What is wrong at the end of the turns, where a line of the session isn't played to its end.
     fn end(&self) -> Next
         requires plan { IsTurnPlan J.plan (length J.boot.authorities) self.now.plan }
-        ensures { AreDone self.now.plan self.now.seats → IsEnd result }
+        ensures { IsEndOfAny self.now.plan self.now.seats result }
     {
         match self.table.left_line(self.plan) {
             None => Next::End,
             Some(line) => Next::Wrong(Mistake {
-                line: self.turns.number(),
+                line: self.turns.number() as usize,
                 why: Why::Left { line },
             }),
         }
@@ -135,21 +134,22 @@ impl<'p, 'r, J: Job, L: Ledger> Replay<'p, 'r, J, L> {
         requires plan { IsTurnPlan J.plan (length J.boot.authorities) self.old.plan }
         ensures plan { self.new.plan ≡ self.old.plan }
         ensures tells { IfOk result (λ next. TellsOn (P.refused patterns.old) (P.refused patterns.new)) }
-        ensures right { IfOk result (λ next. (session : Session) (history : List EntryValue) (made : ℕ) → IsLegalReplay J.plan J.boot J.target session history self.old.plan → HasReplayed session history made book.old self.old → IsNextOfReplay session history (made + 1) (P.refused patterns.old) (P.refused patterns.new) book.new self.new next) }
+        ensures any { IfOk result (λ next. IsUnderWay book.old self.old.seats → IsNextOfAny self.old.plan book.new self.new.seats next) }
+        ensures right { IfOk result (λ next. (session : Session) (history : List EntryValue) (parting : Parting) (made : ℕ) → IsLegalReplay J.plan J.boot J.target session history self.old.plan → ListsAlike parting → HasReplayed session history parting made book.old self.old → IsNextOfReplay session history parting (made + 1) (P.refused patterns.old) (P.refused patterns.new) book.new self.new next) }
     {
         let _actors = book.actors();
         match self.turns.find() {
             Found::Entry(turn) => self.play_turn(rt, book, turn, patterns),
             Found::Strange => Ok(Next::Wrong(Mistake {
-                line: self.turns.number(),
+                line: self.turns.number() as usize,
                 why: Why::Strange,
             })),
             Found::End => Ok(self.end()),
         }
     }
 
-    /// Plays the turns of the report up to its end, or to the first that can't be played: then its mistake is answered. It
-    /// fails for want of memory alone.
+    /// Plays the turns of the report up to the last sweep or its end, or to the first that can't be played: then its mistake is
+    /// answered. It fails for want of memory alone.
     pub fn play_all<R: Wait + Sync, P: Patterns>(
         &mut self,
         rt: &R,
@@ -157,7 +157,8 @@ impl<'p, 'r, J: Job, L: Ledger> Replay<'p, 'r, J, L> {
         patterns: &mut P,
     ) -> Result<Option<Mistake>, Memory>
         requires plan { IsTurnPlan J.plan (length J.boot.authorities) self.old.plan }
-        ensures replayed { IfOk result (λ mistake. (session : Session) (history : List EntryValue) → IsLegalReplay J.plan J.boot J.target session history self.old.plan → HasReplayed session history 0 book.old self.old → P.refused patterns.new ≡ P.refused patterns.old → IsReplayed history mistake book.new self.new.seats) }
+        ensures any { IfOk result (λ mistake. IsUnderWay book.old self.old.seats → IsPlayedByAny self.old.plan book.new self.new.seats mistake) }
+        ensures replayed { IfOk result (λ mistake. (session : Session) (history : List EntryValue) (parting : Parting) → IsLegalReplay J.plan J.boot J.target session history self.old.plan → ListsAlike parting → HasReplayed session history parting 0 book.old self.old → P.refused patterns.new ≡ P.refused patterns.old → IsReplayed session history parting mistake book.new self.new.seats) }
     {
         for turn in 0..u32::MAX {
             let _ = turn;
@@ -168,6 +169,6 @@ impl<'p, 'r, J: Job, L: Ledger> Replay<'p, 'r, J, L> {
             }
         }
         let _actors = book.actors();
-        Ok(Some(Mistake::stuck(self.turns.number())))
+        Ok(Some(Mistake::stuck(self.turns.number() as usize)))
     }
 }

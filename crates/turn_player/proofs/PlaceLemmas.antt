@@ -2,8 +2,8 @@
 use Rattle.std.proofs.Common.{◌≡◌, ◌≢◌, ◌<◌, ◌≤◌, ◌+◌, ℕ, List, ◌∷◌, length, drop, All, Option, Some, None, refl, sym, ap, ◌∙◌, subst, arith}
 use Rattle.std.specs.Prelude.{IfNone, IfSome, slice_get, slice_index_or}
 use Rattle.std.proofs.lemmas.Option.{get_or_from_slice_get, none-some, same_Some, slice_get_read, slice_get_within}
-use Rattle.std.proofs.lemmas.List.{drop_more}
-use Rattle.std.proofs.lemmas.List.Elements.{All-cons}
+use Rattle.std.proofs.lemmas.List.{drop_all, drop_more}
+use Rattle.std.proofs.lemmas.List.Elements.{All-cons, All-nil}
 use Rattle.call_journal.specs.declared.event.CallerEvent.{CallerEvent}
 use Rattle.call_journal.specs.declared.plan.Count.{Count}
 use Rattle.call_journal.specs.declared.plan.Listed.{Listed}
@@ -187,10 +187,24 @@ no_seat lists plan actor line book seats is has few seated due nonzero = beyond 
 pub nothing_left : (plan : List (List Listed)) (seat now : SeatView) (found : Option Listed) → seat ≡ now → seat.up ≡ None
     → ((listed : Listed) → seat.lane.count.pins ≡ 0 → IsListed plan seat.lane.actor seat.lane.count listed → found ≡ Some listed) → found ≡ None → HasNoLineLeft plan now
 nothing_left plan seat now found same free some none =
-    subst (λ (s : SeatView). HasNoLineLeft plan s) same (record {
-      up = subst (λ (o : Option UpView). IfSome o (λ up. up.line ≡ 0)) (sym free) tt;
-      next = λ listed empty pins is. absurd (none-some listed (sym none ∙ some listed pins is));
-    })
+    subst (λ (s : SeatView). HasNoLineLeft plan s) same
+    (λ counted listed is. absurd (none-some listed (sym none ∙ some listed (free_pins seat.up (seat.lane.count.pins ≡ 0) free counted) is)))
+
+-- or for which an event of line 0 is listed next
+pub sweep_left : (plan : List (List Listed)) (seat now : SeatView) (next : Listed) → seat ≡ now → IsListed plan seat.lane.actor seat.lane.count next → next.line ≡ 0 → HasNoLineLeft plan now
+sweep_left plan seat now next same is zeroth =
+    subst (λ (s : SeatView). HasNoLineLeft plan s) same
+    (λ counted listed other. ap (λ (l : Listed). l.line) (one_listed plan seat.lane.actor seat.lane.count listed next other is) ∙ zeroth)
+
+-- or where a pin is up whose call starts in line 0
+pub up_left : (lists : List (List Listed)) (plan : Option (List (List Listed))) (seat now : SeatView) (up : UpView) → seat ≡ now → plan ≡ Some lists → IsUp plan seat.lane up → up.line ≡ 0 → HasNoLineLeft lists now
+up_left lists plan seat now up same is has zeroth =
+    subst (λ (s : SeatView). HasNoLineLeft lists s) same
+    (λ counted listed next. ap (λ (l : Listed). l.line) (sym (up_listed lists plan seat.lane up listed is has.listed next)) ∙ zeroth)
+
+-- or at any seat behind the last one
+pub all_behind : (plan : List (List Listed)) (seats : List SeatView) (i : ℕ) → length seats ≤ i → All (HasNoLineLeft plan) (drop i seats)
+all_behind plan seats i beyond = subst (λ (ss : List SeatView). All (HasNoLineLeft plan) ss) (sym (drop_all i seats beyond)) (All-nil (HasNoLineLeft plan))
 
 -- none is at any seat if none is at those before this one, at this one and at those behind it
 pub left_on : (plan : List (List Listed)) (seats : List SeatView) (i : ℕ) (seat : SeatView) → slice_get seats i ≡ Some seat → HasNoLineLeft plan seat → (All (HasNoLineLeft plan) (drop i seats) → All (HasNoLineLeft plan) seats)

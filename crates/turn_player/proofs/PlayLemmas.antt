@@ -1,17 +1,19 @@
 -- What a turn that is played leaves.
-use Rattle.std.proofs.Common.{◌≡◌, ℕ, List, [], Option, Some, None, Result, Ok, Err, sym, refl, subst}
-use Rattle.std.specs.Prelude.{IsOk, OnOk, slice_get}
+use Rattle.std.proofs.Common.{◌≡◌, ℕ, List, [], ◌∷◌, Option, Some, None, Result, Ok, Err, sym, refl, subst}
+use Rattle.std.specs.Prelude.{IsErr, IsOk, OnErr, OnOk, slice_get}
+use Rattle.call_journal.specs.declared.entry.Entry.{Entry}
 use Rattle.call_journal.specs.declared.plan.Listed.{Listed}
 use Rattle.call_journal.specs.declared.plan.ListedEvent.{ListedEvent}
 use Rattle.config_assembly.specs.Orders.{Name}
 use Rattle.book_progress.specs.PlayedPlans.{IsPlayed}
 use Rattle.book_progress.specs.ProgressKept.{most_entries}
+use Rattle.xds_book.specs.BookEntries.{entry_of}
 use Rattle.xds_book.specs.BookViews.{BookView, LaneView}
 use Rattle.channel_calls.specs.ChannelPlans.{HasChannelPlan, HasNext, IsDrivable}
 use Rattle.turn_steps.specs.MadeSteps.{CanStep}
 use Rattle.turn_player.specs.TurnPlans.{IsTurnPlan, SeatView, UpView}
 use Rattle.turn_player.specs.DueEvents.{IsOf, IsShortOf, ListsOf}
-use Rattle.turn_player.specs.TableSeats.{AreSeated, IsDue, IsTurnPlayed}
+use Rattle.turn_player.specs.TableSeats.{AreSeated, HasMore, IsDue, IsTurnPlayed}
 use Rattle.turn_player.specs.TablePlaces.{IsHoldAt, IsNextOn, IsTurnMade, PlaysOnce}
 use Rattle.turn_player.proofs.PlaceLemmas.{due_at, due_can, due_is_of, up_gate}
 use Rattle.turn_player.proofs.SeatLemmas.{played_seats, turn_of}
@@ -103,6 +105,24 @@ hold_made (Ok value) plan actor line lines old new before after told tells hold 
   texts = [];
   once = subst (λ (l : ℕ). PlaysOnce actor l (ListedEvent.Start hold.up.token.call) [] old new before after) hold.here.line_is (made hold.seat hold.up hold.at hold.up_is);
   known = λ listed lists same. sym lists;
+}
+
+-- what holds where a step isn't made
+pub on_err : {T E : Type 0} (result : Result T E) (P : Type 0) → IsErr result → OnErr result P → P
+on_err (Err halt) P is holds = holds
+on_err (Ok value) P is holds = absurd (cc is)
+
+-- nothing more was made
+pub none_more : (entries : List Entry) → HasMore entries entries
+none_more entries = record { more = []; is = refl }
+
+-- what was made by a turn that may have been made
+pub made_more : {T E : Type 0} (result : Result T E) (actor line : ℕ) (lines : List ℕ) (old new : BookView) (before after : List SeatView) (told tells : List Name) → OnOk result (IsTurnMade actor line lines old new before after told tells)
+    → OnErr result (new.entries ≡ old.entries) → HasMore old.entries new.entries
+made_more (Err halt) actor line lines old new before after told tells made none = record { more = []; is = none }
+made_more (Ok value) actor line lines old new before after told tells made none = record {
+  more = entry_of made.once.seat.lane.actor line made.once.turn.what ∷ [];
+  is = made.once.turn.makes.entries;
 }
 
 -- ---- what a turn that was made leaves

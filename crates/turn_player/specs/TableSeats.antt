@@ -1,5 +1,6 @@
 -- The seats of a Book's actors, and the turns that are played at them (this project's own).
-use Rattle.std.specs.Prelude.{◌≡◌, ◌<◌, ℕ, List, ◌∷◌, All, length, slice_get, false, Some, None, IfNone, IfSome}
+use Rattle.std.specs.Prelude.{◌≡◌, ◌<◌, ℕ, List, ◌∷◌, ◌++◌, All, length, slice_get, false, Some, None, IfNone}
+use Rattle.call_journal.specs.declared.entry.Entry.{Entry}
 use Rattle.call_journal.specs.declared.entry.What.{What}
 use Rattle.call_journal.specs.declared.plan.Listed.{Listed}
 use Rattle.config_assembly.specs.Orders.{Name}
@@ -36,6 +37,11 @@ pub record AreSeated (book : BookView) (seats : List SeatView) : Type 0 where
 
 -- ---- turns
 
+-- whatever was made came behind these entries
+pub record HasMore (old new : List Entry) : Type 0 where
+  pub more : List Entry
+  pub is : new ≡ more ++ old
+
 -- the texts that lines list for the event of an entry
 abbrev pub ListsIn : What → List ℕ → List Name → Type 0
 ListsIn (What.Driver event reply) lines listed = ListsFor event lines listed
@@ -71,11 +77,10 @@ pub record IsDone (plan : List (List Listed)) (seat : SeatView) : Type 0 where
 abbrev pub AreDone : List (List Listed) → List SeatView → Type 0
 AreDone plan seats = All (IsDone plan) seats
 
--- No line is left at a seat that has to end before the last sweep: a pin that is up is of a call that starts in line 0, and where
--- none is up, what is listed next for its lane is of line 0, as the last sweep is.
-pub record HasNoLineLeft (plan : List (List Listed)) (seat : SeatView) : Type 0 where
-  pub up : IfSome seat.up (λ up. up.line ≡ 0)
-  pub next : (listed : Listed) → seat.up ≡ None → seat.lane.count.pins ≡ 0 → IsListed plan seat.lane.actor seat.lane.count listed → listed.line ≡ 0
+-- No line of the session is left at a seat: what is listed next for its lane is of line 0, as the last sweep is. The lane counts
+-- no pin where none is up.
+abbrev pub HasNoLineLeft : List (List Listed) → SeatView → Type 0
+HasNoLineLeft plan seat = IfNone seat.up (seat.lane.count.pins ≡ 0) → (listed : Listed) → IsListed plan seat.lane.actor seat.lane.count listed → listed.line ≡ 0
 
 -- this turn is that of the last sweep, which is listed next for the driver
 pub record IsSweepNext (plan : List (List Listed)) (actor line : ℕ) (book : BookView) : Type 0 where

@@ -1,5 +1,5 @@
 //! Acts of actors, made at their seats.
-ghost use Rattle.std.specs.Prelude.{◌≡◌, ◌≢◌, ◌<◌, [], length, Err, IfSome, None, OnOk};
+ghost use Rattle.std.specs.Prelude.{◌≡◌, ◌≢◌, ◌<◌, [], length, Err, IfSome, None, OnErr, OnOk};
 ghost use Rattle.call_journal.specs.declared.plan.ListedEvent.TheVariants as ListedValue;
 ghost use Rattle.book_progress.specs.ProgressKept.{most_entries};
 ghost use Rattle.channel_calls.specs.ChannelPlans.{HasChannelPlan, HasNext};
@@ -29,6 +29,7 @@ fn start_at<J: Job>(
     requires free { seat.old.up ≡ None }
     ensures made { OnOk result (MakesTurn at.line (ListedValue.Start call) [] book.old book.new seat.old seat.new) }
     ensures halts { CanStep seat.old.lane at.after book.old → result ≢ Err Strange }
+    ensures none { OnErr result (book.new.entries ≡ book.old.entries) }
 {
     if let Some(token) = pin(book, &mut seat.lane, at, call)? {
         seat.up = Some(UpCall { token, at });
@@ -49,6 +50,7 @@ pub(crate) fn make_at<J: Job, R: Wait + Sync, L: Ledger>(
     requires free { seat.old.up ≡ None }
     ensures made { OnOk result (MakesTurn due.at.line (event_of due.act) (texts_in due.act) book.old book.new seat.old seat.new) }
     ensures halts { CanStep seat.old.lane due.at.after book.old → IsOf seat.old.lane.actor (event_of due.act) → result ≢ Err Strange }
+    ensures none { OnErr result (book.new.entries ≡ book.old.entries) }
 {
     let is_driver = seat.lane.actor() == 0;
     let Due { at, act } = due;
@@ -70,6 +72,7 @@ pub(crate) fn hold_at<J: Job, L: Ledger>(
     requires fits { HasChannelPlan J.plan (length J.boot.authorities) most_entries }
     ensures made { OnOk result (IfSome seat.old.up (λ up. MakesTurn up.line (ListedValue.Start up.token.call) [] book.old book.new seat.old seat.new)) }
     ensures halts { IfSome seat.old.up (λ up. CanStep seat.old.lane up.after book.old → result ≢ Err Strange) }
+    ensures none { OnErr result (book.new.entries ≡ book.old.entries) }
 {
     let Some(UpCall { token, at }) = seat.up.take() else {
         return Err(Halt::Strange);

@@ -1,5 +1,5 @@
 //! Turns, played one after another.
-ghost use Rattle.std.specs.Prelude.{◌≡◌, ◌≢◌, ◌↔◌, ◌⊎◌, ◌++◌, ◌∷◌, [], All, length, map, slice_get, Err, IfOk, IsOk, None, Ok, OnOk, Some};
+ghost use Rattle.std.specs.Prelude.{◌≡◌, ◌≢◌, ◌↔◌, ◌⊎◌, ◌++◌, ◌∷◌, [], All, length, map, slice_get, Err, IfOk, IsErr, IsOk, None, Ok, OnErr, OnOk, Some};
 ghost use Rattle.call_journal.specs.declared.plan.ListedEvent.TheVariants as ListedValue;
 ghost use Rattle.book_progress.specs.ProgressKept.{most_entries};
 ghost use Rattle.channel_calls.specs.ChannelPlans.{HasChannelPlan, HasNext};
@@ -8,7 +8,7 @@ ghost use Rattle.turn_steps.specs.MadeSteps.{CanStep};
 ghost use Rattle.turn_steps.specs.declared.halts.Halt.TheVariants as Halted;
 ghost use Rattle.turn_player.specs.TurnPlans.{IsTurnPlan, SeatView as SeatValue, UpView as UpValue};
 ghost use Rattle.turn_player.specs.DueEvents.{IsOf, event_of, texts_in};
-ghost use Rattle.turn_player.specs.TableSeats.{AreDone, AreLeft, AreSeated, HasNoLineLeft, IsDone, IsDue, IsSweepNext, IsTurnPlayed, free_seat};
+ghost use Rattle.turn_player.specs.TableSeats.{AreDone, AreLeft, AreSeated, HasMore, HasNoLineLeft, IsDone, IsDue, IsSweepNext, IsTurnPlayed, free_seat};
 ghost use Rattle.turn_player.specs.TablePlaces.{IsNextOn, IsSweepPlace, IsTurnMade, IsTurnPlace, PlaysOnce};
 
 use crate::due_events::{Due, due_of};
@@ -82,6 +82,7 @@ fn told(step: Result<(), Halt>) -> Result<Option<Misplaced>, Halt>
     ensures made { result ≡ Ok None → IsOk step }
     ensures memory { step ≡ Err Halted.Memory → result ≡ Err Halted.Memory }
     ensures halts { step ≢ Err Halted.Strange → (result ≡ Ok None) ⊎ (result ≡ Err Halted.Memory) }
+    ensures none { result ≢ Ok None → IsErr step }
 {
     match step {
         Ok(()) => Ok(None),
@@ -130,7 +131,8 @@ impl<J: Job, L: Ledger> Table<J, L> {
     /// Why the last sweep can't be made yet: a line isn't played to its end.
     fn early_sweep(&self, plan: &Plan) -> Option<Misplaced>
         requires plan { IsTurnPlan J.plan (length J.boot.authorities) plan.now.actors }
-        ensures { AreDone plan.now.actors self.now → result ≡ None }
+        ensures done { AreDone plan.now.actors self.now → result ≡ None }
+        ensures left { result ≡ None → All (HasNoLineLeft plan.now.actors) self.now }
     {
         let line = self.left_line(plan)?;
         Some(Misplaced::Early(line))
@@ -149,6 +151,7 @@ impl<J: Job, L: Ledger> Table<J, L> {
         requires free { (seat : SeatValue) → slice_get self.old actor ≡ Some seat → seat.up ≡ None }
         ensures made { OnOk result (PlaysOnce actor due.at.line (event_of due.act) (texts_in due.act) book.old book.new self.old self.new) }
         ensures halts { (seat : SeatValue) → slice_get self.old actor ≡ Some seat → CanStep seat.lane due.at.after book.old → IsOf seat.lane.actor (event_of due.act) → result ≢ Err Halted.Strange }
+        ensures none { OnErr result (book.new.entries ≡ book.old.entries) }
     {
         match self.seats.get_mut(usize::from(actor)) {
             Some(seat) => make_at(rt, book, seat, due, &mut self.steps),
@@ -161,6 +164,7 @@ impl<J: Job, L: Ledger> Table<J, L> {
         requires fits { HasChannelPlan J.plan (length J.boot.authorities) most_entries }
         ensures made { OnOk result ((seat : SeatValue) (up : UpValue) → slice_get self.old actor ≡ Some seat → seat.up ≡ Some up → PlaysOnce actor up.line (ListedValue.Start up.token.call) [] book.old book.new self.old self.new) }
         ensures halts { (seat : SeatValue) (up : UpValue) → slice_get self.old actor ≡ Some seat → seat.up ≡ Some up → CanStep seat.lane up.after book.old → result ≢ Err Halted.Strange }
+        ensures none { OnErr result (book.new.entries ≡ book.old.entries) }
     {
         match self.seats.get_mut(usize::from(actor)) {
             Some(seat) => hold_at(book, seat, &mut self.steps),
@@ -198,6 +202,7 @@ impl<J: Job, L: Ledger> Table<J, L> {
         requires next { IsNextOn J.plan turn.actor turn.line book.old self.old listed.now }
         ensures made { OnOk result (IsTurnMade turn.entry.actor turn.entry.line turn.entry.more.now book.old book.new self.old self.new (P.refused patterns.old) (P.refused patterns.new)) }
         ensures halts { (seat : SeatValue) → slice_get self.old turn.entry.actor ≡ Some seat → CanStep seat.lane listed.now.after book.old → IsOf seat.lane.actor listed.now.event → result ≢ Err Halted.Strange }
+        ensures none { OnErr result (book.new.entries ≡ book.old.entries) }
         ensures tells { result ≢ Err Halted.Memory → TellsOn (P.refused patterns.old) (P.refused patterns.new) }
     {
         let due = due_of(self.alloc(), listed, turn.more, patterns)?;
@@ -221,6 +226,9 @@ impl<J: Job, L: Ledger> Table<J, L> {
         ensures goes_on { AreSeated book.old self.old → IsDue plan.now.actors turn.entry.actor turn.entry.line book.old → turn.entry.line ≢ 0 → (result ≡ Ok None) ⊎ (result ≡ Err Halted.Memory) }
         ensures sweeps { AreSeated book.old self.old → AreDone plan.now.actors self.old → IsSweepNext plan.now.actors turn.entry.actor turn.entry.line book.old → result ≡ Ok None }
         ensures tells { result ≢ Err Halted.Memory → TellsOn (P.refused patterns.old) (P.refused patterns.new) }
+        ensures none { result ≢ Ok None → book.new.entries ≡ book.old.entries }
+        ensures more { HasMore book.old.entries book.new.entries }
+        ensures left { result ≡ Ok None → turn.entry.line ≡ 0 → All (HasNoLineLeft plan.now.actors) self.old }
     {
         let _actors = book.actors();
         match self.place_of(book, plan, turn) {

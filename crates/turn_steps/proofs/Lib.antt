@@ -1,2 +1,3 @@
 pub mod TurnSteps
 pub mod TellLemmas
+pub mod PrefixLemmas

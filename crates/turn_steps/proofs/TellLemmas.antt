@@ -11,14 +11,15 @@ gains : (told tells gained : List (List ℕ)) → tells ≡ told ++ gained → T
 gains told tells [] is = inl (is ∙ append-nil told)
 gains told tells (text ∷ more) is = inr (longer told tells text more is)
 
-further : (told mid tells : List (List ℕ)) → length told < length mid → TellsOn mid tells → TellsOn told tells
-further told mid tells less (inl same) = inr (subst (λ (texts : List (List ℕ)). length told < length texts) (sym same) less)
-further told mid tells less (inr more) = inr (omega (arith, less, more))
+-- more texts told in the first of two calls are more after both
+pub tells_beyond : (told mid tells : List (List ℕ)) → length told < length mid → TellsOn mid tells → length told < length tells
+tells_beyond told mid tells less (inl same) = subst (λ (texts : List (List ℕ)). length told < length texts) (sym same) less
+tells_beyond told mid tells less (inr more) = omega (arith, less, more)
 
 -- over two calls it tells the same texts, or more
 pub tells_through : (told mid tells : List (List ℕ)) → TellsOn told mid → TellsOn mid tells → TellsOn told tells
 tells_through told mid tells (inl same) then = subst (λ (texts : List (List ℕ)). TellsOn texts tells) same then
-tells_through told mid tells (inr less) then = further told mid tells less then
+tells_through told mid tells (inr less) then = inr (tells_beyond told mid tells less then)
 
 pub tells_more : (told mid tells gained : List (List ℕ)) → TellsOn told mid → tells ≡ mid ++ gained → TellsOn told tells
 tells_more told mid tells gained first is = tells_through told mid tells first (gains mid tells gained is)

@@ -1,5 +1,5 @@
 -- Events of the driver, prepared with the pattern texts that a report lists as refused (this project's own).
-use Rattle.std.specs.Prelude.{◌≡◌, ◌<◌, ◌⊎◌, ℕ, List, [], length, Option, Some}
+use Rattle.std.specs.Prelude.{◌≡◌, ◌<◌, ◌⊎◌, ℕ, List, [], length, take, Option, Some}
 use Rattle.call_journal.specs.declared.event.DriverEvent.{DriverEvent}
 use Rattle.resource_check.specs.declared.delivery.Prepared.{Prepared}
 use Rattle.listed_patterns.specs.ListedPatterns.{listed_in}
@@ -21,11 +21,19 @@ abbrev pub ListsFor : DriverEvent → List ℕ → List (List ℕ) → Type 0
 ListsFor (DriverEvent.Response a payload) lines listed = ListsStops payload lines listed
 ListsFor event lines listed = listed ≡ []
 
--- a response was prepared where exactly those texts were refused that the lines list
+abbrev pub refused_of : Prepared → List (List ℕ)
+refused_of prepared = prepared.refused
+
+-- a response was prepared where exactly the first so many of these texts were refused
+pub record IsPreparedWithPrefix (payload : List ℕ) (texts : List (List ℕ)) (found : Prepared) : Type 0 where
+  pub count : ℕ
+  pub prepared : IsPreparedWith payload (take count texts) found
+
+-- a response was prepared where exactly a prefix of the texts was refused that the lines list
 pub record IsPreparedBy (payload lines : List ℕ) (found : Prepared) : Type 0 where
   pub listed : List (List ℕ)
   pub lists : listed_in lines ≡ Some listed
-  pub prepared : IsPreparedWith payload listed found
+  pub prepared : IsPreparedWithPrefix payload listed found
 
 -- the builder of patterns tells the texts that it told as refused, or more of them
 abbrev pub TellsOn : List (List ℕ) → List (List ℕ) → Type 0

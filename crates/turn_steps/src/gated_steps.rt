@@ -42,6 +42,7 @@ pub fn drive<J: Job, R: Wait + Sync, L: Ledger>(
     requires next { HasNext J.plan lane.old at.line at.after (ListedValue.Driver coming.event) }
     ensures makes { OnOk result (Drives at.line coming.event coming.prepared book.old book.new lane.old lane.new) }
     ensures halts { CanStep lane.old at.after book.old → result ≢ Err Strange }
+    ensures none { OnErr result (book.new.entries ≡ book.old.entries) }
 {
     if !may_go(book, lane, at.after) {
         return Err(Halt::Strange);
@@ -66,6 +67,7 @@ pub fn pin<J: Job>(
     ensures makes { OnOk result (Makes at.line (answered_call (setting_of J.boot J.target) book.old.entries (Asking.Pin call)) book.old book.new lane.old lane.new) }
     ensures token { IfOk result (IsAfterPin lane.old lane.new call) }
     ensures halts { CanStep lane.old at.after book.old → result ≢ Err Strange }
+    ensures none { OnErr result (book.new.entries ≡ book.old.entries) }
 {
     let _actors = book.actors();
     if !may_go(book, lane, at.after) {
@@ -90,6 +92,7 @@ pub fn hold<J: Job, L: Ledger>(
     requires up { HasUp J.plan lane.old at.line at.after token.call }
     ensures makes { OnOk result (Makes at.line (answered_call (setting_of J.boot J.target) book.old.entries (Asking.Hold token.call)) book.old book.new lane.old lane.new) }
     ensures halts { CanStep lane.old at.after book.old → result ≢ Err Strange }
+    ensures none { OnErr result (book.new.entries ≡ book.old.entries) }
 {
     let _actors = book.actors();
     if !may_go(book, lane, at.after) {
@@ -114,6 +117,7 @@ pub fn pick<J: Job>(
     requires next { HasNext J.plan lane.old at.line at.after (ListedValue.Pick call word) }
     ensures makes { OnOk result (Makes at.line (answered_call (setting_of J.boot J.target) book.old.entries (Asking.Pick call word)) book.old book.new lane.old lane.new) }
     ensures halts { CanStep lane.old at.after book.old → result ≢ Err Strange }
+    ensures none { OnErr result (book.new.entries ≡ book.old.entries) }
 {
     if !may_go(book, lane, at.after) {
         return Err(Halt::Strange);
@@ -135,6 +139,7 @@ pub fn commit<J: Job>(
     requires next { HasNext J.plan lane.old at.line at.after (ListedValue.Commit call) }
     ensures makes { OnOk result (Makes at.line (answered_call (setting_of J.boot J.target) book.old.entries (Asking.Commit call)) book.old book.new lane.old lane.new) }
     ensures halts { CanStep lane.old at.after book.old → result ≢ Err Strange }
+    ensures none { OnErr result (book.new.entries ≡ book.old.entries) }
 {
     if !may_go(book, lane, at.after) {
         return Err(Halt::Strange);

@@ -1,10 +1,11 @@
 //! Events of the driver, prepared with the pattern texts that a report lists as refused.
-ghost use Rattle.std.specs.Prelude.{◌≡◌, ◌<◌, ◌^◌, ℕ, List, length, IfNone, IfOk, IfSome, Some};
+ghost use Rattle.std.specs.Prelude.{◌≡◌, ◌<◌, ◌^◌, ◌⊎◌, ℕ, List, length, IfNone, IfOk, IfSome, Some, option_map};
 ghost use Rattle.resource_check.specs.Deliveries.{IsPrepared};
 ghost use Rattle.book_hearing.specs.HeardEvents.{texts_of};
 ghost use Rattle.channel_calls.specs.ChannelPlans.{IsShortIn};
+ghost use Rattle.listed_check.specs.ListedAnswers.{IsPreparedWith, stops_at};
 ghost use Rattle.listed_patterns.specs.ListedPatterns.{listed_in};
-ghost use Rattle.turn_steps.specs.ListedEvents.{IsPreparedBy, ListsFor, ListsStops, TellsOn};
+ghost use Rattle.turn_steps.specs.ListedEvents.{IsPreparedBy, IsPreparedWithPrefix, ListsFor, ListsStops, TellsOn, refused_of};
 
 use call_journal::DriverEvent;
 use header_match::Patterns;
@@ -13,7 +14,7 @@ use listed_patterns::listed_patterns;
 use resource_check::{Prepared, prepare};
 use std::alloc::Global;
 use std::marker::Model;
-use xc_base::{List, Memory, Shared};
+use xc_base::{List, Memory, Shared, Text};
 
 /// An event of the driver; of a response also what became of its reading and its checks.
 #[derive(Drop)]
@@ -33,26 +34,79 @@ impl Model for Coming {
     ghost invariant = { λ c. IsPreparedFor c.event c.prepared };
 }
 
-/// A response, read and checked where exactly the texts are refused that the lines list. None where they list none that can be
-/// read, its checks stop at other texts, or the builder refuses one more.
+/// A response, read and checked where exactly these texts are refused. None where its checks stop at other texts, or the
+/// builder refuses one more.
+fn prepare_with<P: Patterns>(
+    alloc: Global,
+    payload: &Shared<List<u8>>,
+    texts: &[Text],
+    patterns: &mut P,
+) -> Result<Option<Prepared>, Memory>
+    requires { length payload.now < 2 ^ 32 }
+    ensures prepared { IfOk result (λ found. IfSome found (IsPreparedWith payload.now texts.now)) }
+    ensures others { IfOk result (λ found. IfNone found (texts.now ≡ stops_at texts.now payload.now → length (P.refused patterns.old) < length (P.refused patterns.new))) }
+    ensures tells { IfOk result (λ found. TellsOn (P.refused patterns.old) (P.refused patterns.new)) }
+{
+    let listed = List::from_vec(texts.to_vec(alloc)?);
+    match prepare_listed(alloc, payload.share()?, listed, patterns)? {
+        ListedAnswer::Prepared(prepared) => Ok(Some(prepared)),
+        ListedAnswer::OtherTexts | ListedAnswer::Unbuilt => Ok(None),
+    }
+}
+
+/// A response, read and checked where the longest of the shorter prefixes of these texts is refused that the checks meet: they
+/// stop at exactly its texts. None where they meet none. Every prefix of one that they meet is met too, so the half is tried,
+/// then the half of what is left.
+#[tactic(auto, using(crate::proofs::TellLemmas::tells_through))]
+fn prepare_with_prefix<P: Patterns>(
+    alloc: Global,
+    payload: &Shared<List<u8>>,
+    texts: &[Text],
+    patterns: &mut P,
+) -> Result<Option<Prepared>, Memory>
+    requires { length payload.now < 2 ^ 32 }
+    ensures prepared { IfOk result (λ found. IfSome found (IsPreparedWithPrefix payload.now texts.now)) }
+    ensures tells { IfOk result (λ found. TellsOn (P.refused patterns.old) (P.refused patterns.new)) }
+{
+    let mut found = None;
+    let mut met = 0;
+    let mut unmet = texts.len();
+    while met < unmet {
+        let half = met + (unmet - met) / 2;
+        match prepare_with(alloc, payload, texts.split_at(half).0, patterns)? {
+            Some(prepared) => {
+                found = Some(prepared);
+                met = half + 1;
+            }
+            None => unmet = half,
+        }
+    }
+    Ok(found)
+}
+
+/// A response, read and checked where exactly the texts are refused that the lines list; where its checks don't meet these,
+/// where the longest prefix of them is refused that they meet. None where they meet none, or the lines list none that can be
+/// read.
+#[tactic(auto, using(crate::proofs::TellLemmas::tells_through, crate::proofs::TellLemmas::tells_beyond, crate::proofs::PrefixLemmas::whole))]
 fn prepare_by_list<P: Patterns>(
     alloc: Global,
-    payload: Shared<List<u8>>,
+    payload: &Shared<List<u8>>,
     lines: &[u8],
     patterns: &mut P,
 ) -> Result<Option<Prepared>, Memory>
-    requires { length payload < 2 ^ 32 }
-    ensures prepared { IfOk result (λ found. IfSome found (IsPreparedBy payload lines.now)) }
-    ensures others { IfOk result (λ found. IfNone found ((listed : List (List ℕ)) → ListsStops payload lines.now listed → length (P.refused patterns.old) < length (P.refused patterns.new))) }
+    requires { length payload.now < 2 ^ 32 }
+    ensures prepared { IfOk result (λ found. IfSome found (IsPreparedBy payload.now lines.now)) }
+    ensures listed { IfOk result (λ found. (listed : List (List ℕ)) → ListsStops payload.now lines.now listed → (option_map refused_of found ≡ Some listed) ⊎ (length (P.refused patterns.old) < length (P.refused patterns.new))) }
     ensures tells { IfOk result (λ found. TellsOn (P.refused patterns.old) (P.refused patterns.new)) }
 {
     let Some(listed) = listed_patterns(alloc, lines)? else {
         return Ok(None);
     };
-    match prepare_listed(alloc, payload, listed, patterns)? {
-        ListedAnswer::Prepared(prepared) => Ok(Some(prepared)),
-        ListedAnswer::OtherTexts | ListedAnswer::Unbuilt => Ok(None),
+    let texts = listed.as_slice();
+    if let Some(prepared) = prepare_with(alloc, payload, texts, patterns)? {
+        return Ok(Some(prepared));
     }
+    prepare_with_prefix(alloc, payload, texts, patterns)
 }
 
 /// A response, read and checked where the texts are refused that the lines list, and no other; where that can't be, those are
@@ -70,7 +124,7 @@ fn prepare_response<P: Patterns>(
     ensures listed { IfOk result (λ prepared. (listed : List (List ℕ)) → ListsStops payload.now lines.now listed → P.refused patterns.new ≡ P.refused patterns.old → prepared.refused ≡ listed) }
     ensures tells { IfOk result (λ prepared. TellsOn (P.refused patterns.old) (P.refused patterns.new)) }
 {
-    match prepare_by_list(alloc, payload.share()?, lines, patterns)? {
+    match prepare_by_list(alloc, payload, lines, patterns)? {
         Some(prepared) => Ok(prepared),
         None => {
             let prepared = prepare(alloc, payload.share()?, patterns)?;

@@ -1,7 +1,7 @@
 use Rattle.std.proofs.Common.{◌≡◌, Ok, Option, None, inl, inr, refl, sym, ap, ◌∙◌}
 use Rattle.std.proofs.lemmas.Option.{none-some}
 use Rattle.report_compare.specs.declared.mistakes.Mistake.{Mistake}
-use Rattle.report_judge.proofs.Refusals.{err-ok, fault_told, no_fault, no_mistake_in, told_fault}
+use Rattle.report_judge.proofs.Refusals.{err-ok, fault_told, lines_above, no_fault, no_mistake_in, no_mistake_of, none_goes_on, told_fault}
 use Rattle.report_judge.proofs.judging.judge.Goals as goal
 
 pub returns-in-Err-clause-session : goal.returns-in-Err-clause-session
@@ -59,3 +59,29 @@ returns-clause-session g c = λ line cause same. absurd (cc same)
 
 pub returns-clause-refused : goal.returns-clause-refused
 returns-clause-refused g c = λ line cause refusal. inr refl
+
+pub returns-in-Err-clause-above : goal.returns-in-Err-clause-above
+returns-in-Err-clause-above g c = λ mistake same. absurd (no_mistake_of c.in-Err.fault mistake (sym c.refusal_of.ensures ∙ same))
+
+pub returns-in-Ok-None-clause-above : goal.returns-in-Ok-None-clause-above
+returns-in-Ok-None-clause-above g c = λ mistake same. absurd (cc same)
+
+pub returns-in-Ok-Some-clause-above : goal.returns-in-Ok-Some-clause-above
+returns-in-Ok-Some-clause-above g c = λ mistake same.
+    lines_above c.args.session.now c.args.report.now c.in-Ok.session c.in-Ok-Some.field-0 c.in-Ok-Some.mistake mistake c.in-Ok.ensures.gives c.in-Ok-Some.field-0-is same c.in-Ok-Some.ensures.above
+
+pub returns-clause-above : goal.returns-clause-above
+returns-clause-above g c = λ mistake same. absurd (cc same)
+
+pub returns-in-Err-clause-wrong : goal.returns-in-Err-clause-wrong
+returns-in-Err-clause-wrong g c = λ mistake same told goes. no_mistake_of c.in-Err.fault mistake (sym c.refusal_of.ensures ∙ same)
+
+pub returns-in-Ok-None-clause-wrong : goal.returns-in-Ok-None-clause-wrong
+returns-in-Ok-None-clause-wrong g c = λ mistake same told goes. absurd (cc same)
+
+pub returns-in-Ok-Some-clause-wrong : goal.returns-in-Ok-Some-clause-wrong
+returns-in-Ok-Some-clause-wrong g c = λ mistake same told goes.
+    none_goes_on c.args.session.now c.args.report.now c.in-Ok.session c.in-Ok-Some.field-0 c.in-Ok-Some.mistake mistake c.in-Ok.ensures.gives c.in-Ok-Some.field-0-is same (c.in-Ok-Some.ensures.wrong told) goes
+
+pub returns-clause-wrong : goal.returns-clause-wrong
+returns-clause-wrong g c = λ mistake same told goes. absurd (cc same)

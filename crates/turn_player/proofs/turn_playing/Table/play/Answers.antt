@@ -1,5 +1,5 @@
-use Rattle.std.proofs.Common.{length, inl, refl}
-use Rattle.turn_player.proofs.PlayLemmas.{hold_can, hold_made, made_seats, made_turn, next_can, next_of}
+use Rattle.std.proofs.Common.{◌≡◌, length, inl, refl}
+use Rattle.turn_player.proofs.PlayLemmas.{hold_can, hold_made, made_seats, made_turn, made_more, next_can, next_of, none_more, on_err}
 use Rattle.turn_player.proofs.turn_playing.Table.play.Goals as goal
 
 pub returns-in-Hold-clause-seated : goal.returns-in-Hold-clause-seated
@@ -46,3 +46,30 @@ returns-in-Hold-clause-tells g c = λ other. inl refl
 
 pub returns-in-Next-clause-tells : goal.returns-in-Next-clause-tells
 returns-in-Next-clause-tells g c = λ other. c.make_next.ensures.tells (λ memory. other (c.told-in-Next.ensures.memory memory))
+
+pub returns-in-Hold-clause-none : goal.returns-in-Hold-clause-none
+returns-in-Hold-clause-none g c = λ other. on_err c.hold.result (c.hold.new.book.entries ≡ c.args.book.now.entries) (c.told.ensures.none other) c.hold.ensures.none
+
+pub returns-in-Next-clause-none : goal.returns-in-Next-clause-none
+returns-in-Next-clause-none g c = λ other. on_err c.make_next.result (c.make_next.new.book.entries ≡ c.args.book.now.entries) (c.told-in-Next.ensures.none other) c.make_next.ensures.none
+
+pub returns-in-Misplaced-clause-more : goal.returns-in-Misplaced-clause-more
+returns-in-Misplaced-clause-more g c = none_more c.args.book.now.entries
+
+pub returns-in-Sweep-clause-more : goal.returns-in-Sweep-clause-more
+returns-in-Sweep-clause-more g c = none_more c.args.book.now.entries
+
+pub returns-in-Hold-clause-more : goal.returns-in-Hold-clause-more
+returns-in-Hold-clause-more g c =
+    made_more c.hold.result c.args.turn.actor c.args.turn.line c.args.turn.more.now c.args.book.now c.hold.new.book c.args.self.now c.hold.new.self (g.P.Patterns.refused c.args.patterns.now) (g.P.Patterns.refused c.args.patterns.now)
+    (hold_made c.hold.result g.J.Job.plan c.args.turn.actor c.args.turn.line c.args.turn.more.now c.args.book.now c.hold.new.book c.args.self.now c.hold.new.self (g.P.Patterns.refused c.args.patterns.now) (g.P.Patterns.refused c.args.patterns.now)
+    c.in-Hold.ensures.place c.hold.ensures.made)
+    c.hold.ensures.none
+
+pub returns-in-Next-clause-more : goal.returns-in-Next-clause-more
+returns-in-Next-clause-more g c =
+    made_more c.make_next.result c.args.turn.actor c.args.turn.line c.args.turn.more.now c.args.book.now c.make_next.new.book c.args.self.now c.make_next.new.self (g.P.Patterns.refused c.args.patterns.now)
+    (g.P.Patterns.refused c.make_next.new.patterns) c.make_next.ensures.made c.make_next.ensures.none
+
+pub returns-in-Sweep-clause-left : goal.returns-in-Sweep-clause-left
+returns-in-Sweep-clause-left g c = λ is zeroth. c.early_sweep.ensures.left (cc is)

@@ -1,0 +1,5 @@
+mod WholeTexts
+mod FirstLineLemmas
+pub mod PartingProofs
+mod EntryTexts
+pub mod FirstEntryProofs

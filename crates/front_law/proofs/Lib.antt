@@ -1,0 +1,2 @@
+pub mod FrontProofs
+pub mod Fronts
