@@ -1,6 +1,14 @@
 -- Clusters that are among those that read their addresses.
-use Rattle.std.proofs.Common.{◌≡◌, ◌<◌, ◌≤◌, ◌+◌, ℕ, zero, suc, List, length, take, get_or, ◌⊎◌, inl, inr, sym, ap, ◌∙◌, subst, arith}
-use Rattle.std.specs.Prelude.{Result, Ok, Err, IfOk}
+use Rattle.std.proofs.Common.{◌≡◌, ◌<◌, ◌≤◌, ◌+◌, ℕ, zero, suc, Bool, true, false, cond, List, length, take, get_or, Option, Some, None, ◌⊎◌, inl, inr, refl, sym, ap, ◌∙◌, subst, arith}
+use Rattle.std.specs.Prelude.{All, Result, Ok, Err, IfOk, IfSome}
+use Rattle.std.specs.Option.{option_and_then}
+use Rattle.std.proofs.lemmas.List.Elements.{All-map}
+use Rattle.xc_base.specs.declared.names.Time.{Time}
+use Rattle.xds_config.specs.declared.config.ClusterEntry.{ClusterEntry}
+use Rattle.graceful_switch.specs.Takeover.{Pair, has_to_wait, settled}
+use Rattle.tree_steps.specs.Reports.{Reports}
+use Rattle.tree_steps.specs.TreeSteps.{TreeFacts, followed, stayed, state_of, has_kind, trees_after}
+use Rattle.cluster_tree.specs.StandingTrees.{trees_of, cluster_named, state_after, cluster_after, clusters_after}
 use Rattle.std.proofs.lemmas.List.{take_all, length-take-le, get_or-take, get_or_default}
 use Rattle.xc_base.specs.declared.reason.Reason.{Reason}
 use Rattle.xds_config.specs.declared.config.Leaves.{Leaves}
@@ -8,7 +16,7 @@ use Rattle.cluster_tree.specs.declared.cluster_trees.Standing.{Standing}
 use Rattle.cluster_tree.specs.declared.cluster_trees.Cluster.{Cluster}
 use Rattle.tree_steps.specs.Users.{UserList, Grows, ReadsLeaves}
 use Rattle.tree_steps.proofs.UserLemmas.{grown_leaves}
-use Rattle.cluster_tree.specs.ClusterUsers.{AreReadIn, AreRead}
+use Rattle.cluster_tree.specs.ClusterUsers.{FollowsEntry, AreReadIn, AreRead}
 
 pub read_by : (users new : UserList) (place : ℕ) (cluster : Cluster) → Grows users new → AreReadIn users place cluster.entry.state cluster.state → AreReadIn new place cluster.entry.state cluster.state
 read_by users new place cluster grows (entry, serving) = (leaves_in cluster.entry.state entry, standing_in cluster.state serving)
@@ -50,3 +58,45 @@ read_more old new clusters i x lt is all grows here = λ place d within. by plac
 
 pub read_all : (users : UserList) (clusters : List Cluster) (i : ℕ) → length clusters ≤ i → AreRead users (take i clusters) → AreRead users clusters
 read_all users clusters i le read = subst (λ cs. AreRead users cs) (take_all i clusters le) read
+
+-- ---- where no tree waits, the serving one follows the entry
+
+settled_follows : (wait : Bool) (t u : TreeFacts) → (let ts : Pair TreeFacts = cond wait (record { serving = t; waiting = Some u }) (record { serving = u; waiting = None }) in ts.waiting ≡ None → u.leaves ≡ ts.serving.leaves)
+settled_follows true t u none = absurd (cc)
+settled_follows false t u none = refl
+
+kind_follows : (kind : Bool) (now : Time) (r : Reports) (L : Leaves) (old : Pair TreeFacts) →
+    (let ts : Pair TreeFacts = cond kind (record { serving = followed now r L (Some old.serving); waiting = None }) (settled state_of (stayed now r old.serving) (Some (followed now r L old.waiting))) in ts.waiting ≡ None → L ≡ ts.serving.leaves)
+kind_follows true now r L old none = refl
+kind_follows false now r L old none =
+    settled_follows (has_to_wait (state_of (stayed now r old.serving)) (state_of (followed now r L old.waiting))) (stayed now r old.serving) (followed now r L old.waiting) none
+
+trees_follow : (now : Time) (r : Reports) (L : Leaves) (old : Option (Pair TreeFacts)) → (trees_after now r L old).waiting ≡ None → L ≡ (trees_after now r L old).serving.leaves
+trees_follow now r L None none = refl
+trees_follow now r L (Some old) none = kind_follows (has_kind L old.serving) now r L old none
+
+state_follows : (now : Time) (r : Reports) (state : Result Leaves Reason) (old : Option (Pair TreeFacts)) → IfOk (state_after now r state old) (λ s. s.trees.waiting ≡ None → state ≡ Ok s.trees.serving.leaves)
+state_follows now r (Ok L) old = λ none. ap (λ (x : Leaves). let y : Result Leaves Reason = Ok x in y) (trees_follow now r L old none)
+state_follows now r (Err reason) old = tt
+
+pub all_follow : (now : Time) (r : Reports) (entries : List ClusterEntry) (old clusters : List Cluster) → clusters ≡ clusters_after now r entries old → All FollowsEntry clusters
+all_follow now r entries old clusters is =
+    subst (λ (cs : List Cluster). All FollowsEntry cs) (sym is)
+    (All-map FollowsEntry (λ (e : ClusterEntry). cluster_after now r e (cluster_named e.name old)) entries (λ k d lt.
+    let e : ClusterEntry = get_or entries k d in
+    state_follows now r e.state (option_and_then trees_of (cluster_named e.name old))))
+
+-- the addresses of the serving tree are read where those of the entry are, and those of a tree beside which another waits
+pub serving_read : (users : UserList) (place : ℕ) (cluster : Cluster) → FollowsEntry cluster → IfOk cluster.entry.state (λ leaves. ReadsLeaves users place leaves.leaves) →
+    IfOk cluster.state (λ s. IfSome s.trees.waiting (λ _. ReadsLeaves users place s.trees.serving.leaves.leaves)) → IfOk cluster.state (λ s. ReadsLeaves users place s.trees.serving.leaves.leaves)
+serving_read users place cluster follows entry serving = by cluster.state follows serving
+  where
+    waits : (s : Standing) (waiting : Option TreeFacts) → s.trees.waiting ≡ waiting → (waiting ≡ None → cluster.entry.state ≡ Ok s.trees.serving.leaves) → IfSome waiting (λ _. ReadsLeaves users place s.trees.serving.leaves.leaves) →
+        ReadsLeaves users place s.trees.serving.leaves.leaves
+    waits s None is same read = subst (λ (x : Result Leaves Reason). IfOk x (λ leaves. ReadsLeaves users place leaves.leaves)) (same refl) entry
+    waits s (Some other) is same read = read
+
+    by : (state : Result Standing Reason) → IfOk state (λ s. s.trees.waiting ≡ None → cluster.entry.state ≡ Ok s.trees.serving.leaves) → IfOk state (λ s. IfSome s.trees.waiting (λ _. ReadsLeaves users place s.trees.serving.leaves.leaves)) →
+        IfOk state (λ s. ReadsLeaves users place s.trees.serving.leaves.leaves)
+    by (Ok s) same read = waits s s.trees.waiting refl same read
+    by (Err reason) same read = tt

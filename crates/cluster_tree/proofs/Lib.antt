@@ -3,3 +3,4 @@ pub mod ReportLemmas
 pub mod ClusterLemmas
 pub mod ChangeLemmas
 pub mod MergeLemmas
+pub mod TimerLemmas

@@ -1,5 +1,5 @@
 -- Clusters among those that read the states of addresses, and which of them an update leaves as they are.
-use Rattle.std.specs.Prelude.{◌≡◌, ◌<◌, ◌⊎◌, ℕ, Bool, List, length, get_or, AllPairs, Result, true, false, IfOk, ◌≤◌, Some, option_map, slice_get}
+use Rattle.std.specs.Prelude.{◌≡◌, ◌<◌, ◌⊎◌, ℕ, Bool, List, length, get_or, AllPairs, Result, Ok, true, false, IfOk, ◌≤◌, Some, None, option_map, slice_get}
 use Rattle.xc_base.specs.declared.reason.Reason.{Reason}
 use Rattle.xc_base.specs.declared.names.Time.{Time}
 use Rattle.xds_config.specs.declared.config.Leaves.{Leaves}
@@ -17,6 +17,10 @@ IsSound users place cluster = IfOk cluster.entry.state (IsSoundTree users place)
 
 abbrev pub AreReadIn : UserList → ℕ → Result Leaves Reason → Result Standing Reason → Type 0
 AreReadIn users place entry state = IfOk entry (λ leaves. ReadsLeaves users place leaves.leaves) × IfOk state (λ standing. ReadsLeaves users place standing.trees.serving.leaves.leaves)
+
+-- where no tree waits, the serving one follows the leaves of the cluster's entry
+abbrev pub FollowsEntry : Cluster → Type 0
+FollowsEntry cluster = IfOk cluster.state (λ standing. standing.trees.waiting ≡ None → cluster.entry.state ≡ Ok standing.trees.serving.leaves)
 
 -- each cluster is among those that read the addresses of its leaves, and of its serving tree's
 abbrev pub AreRead : UserList → List Cluster → Type 0

@@ -1,3 +1,4 @@
 pub mod StandingTrees
 pub mod ClusterUsers
 pub mod ViewChanges
+pub mod ClusterTimers

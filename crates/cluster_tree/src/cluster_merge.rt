@@ -1,12 +1,14 @@
 //! Clusters before and after an update, side by side in the order of their names.
-ghost use Rattle.std.specs.Prelude.{◌≡◌, ◌<◌, ◌≤◌, ◌++◌, ◌∷◌, ◌↔◌, ◌||◌, ℕ, [], length, get_or, option_map, true, false, Some, not, nat_lt, IsTrue, IfOk, IfSome, OnOk};
+ghost use Rattle.std.specs.Prelude.{◌≡◌, ◌<◌, ◌≤◌, ◌++◌, ◌∷◌, ◌↔◌, ◌||◌, ℕ, [], length, get_or, slice_get, option_map, true, false, Some, not, nat_lt, IsTrue, IfOk, IfSome, OnOk};
 ghost use Rattle.xds_config.specs.Configs.{AreLawfulLeaves, IsNameBefore};
 ghost use Rattle.cluster_tree.specs.declared.cluster_trees.Cluster.{Cluster as ClusterValue};
 ghost use Rattle.cluster_tree.specs.StandingTrees.{cluster_after, cluster_named, stands_in};
 ghost use Rattle.cluster_tree.specs.ClusterUsers.{AreRising, IsReached, StaysUnmarked};
+ghost use Rattle.cluster_tree.specs.ClusterTimers.{quiet_in};
 ghost use Rattle.cluster_tree.specs.ViewChanges.{seen_of, IsChangeMark};
 
-use crate::cluster_trees::{Cluster, NextCluster, cluster_after, share_cluster, stands_at};
+use crate::cluster_timers::{has_timers, stands_with};
+use crate::cluster_trees::{Cluster, NextCluster, cluster_after, share_cluster};
 use std::alloc::Global;
 use std::cmp::Ordering;
 use std::collections::BTreeMap;
@@ -47,6 +49,8 @@ pub(crate) struct NextClusters {
     pub(crate) changed: Vec<bool>,
     /// For each, whether it isn't the cluster that stood at its place.
     pub(crate) anew: Vec<bool>,
+    /// For each, whether a timer of its trees runs.
+    pub(crate) timers: Vec<bool>,
 }
 
 impl NextClusters {
@@ -55,14 +59,17 @@ impl NextClusters {
         ensures clusters { IfOk result (λ next. next.clusters.items ≡ []) }
         ensures changed { IfOk result (λ next. next.changed.items ≡ []) }
         ensures anew { IfOk result (λ next. next.anew.items ≡ []) }
+        ensures timers { IfOk result (λ next. next.timers.items ≡ []) }
     {
         let clusters = Vec::with_capacity(alloc, room)?;
         let changed = Vec::with_capacity(alloc, room)?;
         let anew = Vec::with_capacity(alloc, room)?;
+        let timers = Vec::with_capacity(alloc, room)?;
         Ok(NextClusters {
             clusters,
             changed,
             anew,
+            timers,
         })
     }
 
@@ -71,7 +78,9 @@ impl NextClusters {
         ensures clusters { OnOk result (self.new.clusters.items ≡ self.old.clusters.items ++ next.cluster ∷ []) }
         ensures changed { OnOk result (self.new.changed.items ≡ self.old.changed.items ++ next.changed ∷ []) }
         ensures anew { OnOk result (self.new.anew.items ≡ self.old.anew.items ++ (next.anew || moved) ∷ []) }
+        ensures timers { OnOk result (self.new.timers.items ≡ self.old.timers.items ++ not (quiet_in next.cluster.state) ∷ []) }
     {
+        self.timers.push(has_timers(&next.cluster))?;
         self.clusters.push(next.cluster)?;
         self.changed.push(next.changed)?;
         self.anew.push(next.anew || moved)?;
@@ -87,7 +96,7 @@ fn is_before(name: &Text, other: &Text) -> bool
 }
 
 /// The first place, from one on, whose cluster doesn't stand before the name.
-pub(crate) fn first_not_before(clusters: &[Cluster], from: usize, name: &Text) -> usize
+fn first_not_before(clusters: &[Cluster], from: usize, name: &Text) -> usize
     requires within { from ≤ length clusters.now }
     requires passed { (k : ℕ) (d : ClusterValue) → k < from → IsNameBefore (get_or clusters.now k d).entry.name name.now }
     ensures { IsReached clusters.now name.now result }
@@ -101,11 +110,7 @@ pub(crate) fn first_not_before(clusters: &[Cluster], from: usize, name: &Text) -
 }
 
 /// The cluster of a name, which can only stand at this place.
-pub(crate) fn named_at<'a>(
-    clusters: &'a [Cluster],
-    place: usize,
-    name: &Text,
-) -> Option<&'a Cluster>
+fn named_at<'a>(clusters: &'a [Cluster], place: usize, name: &Text) -> Option<&'a Cluster>
     requires rising { AreRising clusters.now }
     requires place { IsReached clusters.now name.now place }
     ensures named { option_map (λ r. r.now) result ≡ cluster_named name.now clusters.now }
@@ -119,6 +124,65 @@ pub(crate) fn named_at<'a>(
     }
 }
 
+/// Where the clusters have the one of a name.
+#[derive(Clone, Copy)]
+pub(crate) struct Found<'a> {
+    /// The first place whose cluster doesn't stand before the name.
+    pub(crate) place: usize,
+    /// The cluster of the name, if there is one.
+    pub(crate) cluster: Option<&'a Cluster>,
+}
+
+/// The cluster of a name, among those from a place on.
+fn find_behind<'a>(clusters: &'a [Cluster], from: usize, name: &Text) -> Found<'a>
+    requires rising { AreRising clusters.now }
+    requires within { from ≤ length clusters.now }
+    requires passed { (k : ℕ) (d : ClusterValue) → k < from → IsNameBefore (get_or clusters.now k d).entry.name name.now }
+    ensures reached { IsReached clusters.now name.now result.place }
+    ensures named { option_map (λ r. r.now) result.cluster ≡ cluster_named name.now clusters.now }
+    ensures here { IfSome (option_map (λ r. r.now) result.cluster) (λ c. (result.place < length clusters.now) × (get_or clusters.now result.place c ≡ c)) }
+{
+    let place = first_not_before(clusters, from, name);
+    Found {
+        place,
+        cluster: named_at(clusters, place, name),
+    }
+}
+
+/// The cluster at a place.
+fn cluster_at(clusters: &[Cluster], place: usize) -> Option<&Cluster>
+    ensures { option_map (λ r. r.now) result ≡ slice_get clusters.now place }
+{
+    clusters.get(place)
+}
+
+/// The cluster of a name, among those from a place on. Where it is known to stand at `own`, no names are compared.
+pub(crate) fn find_cluster<'a>(
+    clusters: &'a [Cluster],
+    from: usize,
+    name: &Text,
+    own: usize,
+    is_known: bool,
+) -> Found<'a>
+    requires rising { AreRising clusters.now }
+    requires within { from ≤ length clusters.now }
+    requires passed { (k : ℕ) (d : ClusterValue) → k < from → IsNameBefore (get_or clusters.now k d).entry.name name.now }
+    requires known { is_known ≡ true → option_map (λ c. c.entry.name) (slice_get clusters.now own) ≡ Some name.now }
+    ensures reached { IsReached clusters.now name.now result.place }
+    ensures named { option_map (λ r. r.now) result.cluster ≡ cluster_named name.now clusters.now }
+    ensures here { IfSome (option_map (λ r. r.now) result.cluster) (λ c. (result.place < length clusters.now) × (get_or clusters.now result.place c ≡ c)) }
+    ensures own { is_known ≡ true → result.place ≡ own }
+{
+    if is_known {
+        Found {
+            place: own,
+            cluster: cluster_at(clusters, own),
+        }
+    } else {
+        find_behind(clusters, from, name)
+    }
+}
+
 /// The mark at a place; there is none where there is no such place.
 pub(crate) fn is_marked(marks: &[bool], place: usize) -> bool
     ensures { result ≡ get_or marks.now place false }
@@ -129,11 +193,14 @@ pub(crate) fn is_marked(marks: &[bool], place: usize) -> bool
     }
 }
 
-/// Whether a cluster has to take an update.
-pub(crate) fn is_due(cluster: &Cluster, turn: Turn) -> bool
+/// Whether a cluster has to take an update, where `timer` tells whether a timer of its trees may run.
+pub(crate) fn is_due(cluster: &Cluster, turn: Turn, timer: bool) -> bool
+    requires { timer ≡ false → quiet_in cluster.now.state ≡ true }
     ensures { result ≡ (turn.marked || not (stands_in turn.times.this cluster.now.state) || nat_lt turn.times.this.0 turn.times.last.0) }
 {
-    turn.marked || !stands_at(cluster, turn.times.this) || turn.times.this.0 < turn.times.last.0
+    turn.marked
+        || !stands_with(cluster, turn.times.this, timer)
+        || turn.times.this.0 < turn.times.last.0
 }
 
 /// Whether a cluster stays as it is: its entry does, and it doesn't have to take the update.
@@ -142,7 +209,7 @@ fn stays(cluster: &Cluster, entry: &ClusterEntry, turn: Turn) -> bool
     ensures due { result ≡ true → (turn.marked || not (stands_in turn.times.this cluster.now.state) || nat_lt turn.times.this.0 turn.times.last.0) ≡ false }
     ensures same { result ≡ true → cluster.now.entry ≡ entry.now }
 {
-    !is_due(cluster, turn) && (turn.is_known || cluster.entry.get().same(entry))
+    !is_due(cluster, turn, true) && (turn.is_known || cluster.entry.get().same(entry))
 }
 
 /// A cluster that stays as it is.

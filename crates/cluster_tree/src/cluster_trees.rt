@@ -1,13 +1,14 @@
 //! A cluster with its trees.
-ghost use Rattle.std.specs.Prelude.{◌≡◌, ◌↔◌, Some, None, Err, IsTrue, true, map, option_map, IfOk, OnOk};
+ghost use Rattle.std.specs.Prelude.{◌≡◌, ◌↔◌, Some, None, Err, IsTrue, true, map, option_map, IfOk, IfSome, OnOk};
 ghost use Rattle.std.specs.Option.{option_and_then};
 ghost use Rattle.xds_config.specs.Configs.{AreLawfulLeaves};
 ghost use Rattle.cluster_tree.specs.StandingTrees.{standing, trees_of, cluster_after, view_in, stands_in};
+ghost use Rattle.cluster_tree.specs.ClusterUsers.{FollowsEntry};
 ghost use Rattle.cluster_tree.specs.ViewChanges.{seen_of, tree_view_of, IsChangeMark, served_localities};
 ghost use Rattle.tree_steps.specs.Users.{Grows, ReadsLeaves};
 ghost use Rattle.tree_steps.specs.TreeSteps.{trees_after};
 
-use crate::tree_switch::{is_quiet, stand_at, trees_after, trees_view};
+use crate::tree_switch::{NextTrees, is_quiet, stand_at, trees_after, trees_view};
 use graceful_switch::Switch;
 use std::alloc::Global;
 use std::collections::BTreeMap;
@@ -122,8 +123,8 @@ fn standing_after(
     ensures changed { IfOk result (λ next. IsChangeMark next.changed (option_map (λ r. r.now.view) old.entry) next.standing.view) }
     ensures standing { IfOk result (λ next. next.standing ≡ standing reports.now.entries (trees_after now reports.now.entries leaves.now (option_map (λ r. r.now.trees) old.entry))) }
 {
-    let trees = trees_after(alloc, reports, now, leaves, trees_of(old))?;
-    let view = trees_view(alloc, reports, &trees)?;
+    let NextTrees { trees, picker } = trees_after(alloc, reports, now, leaves, trees_of(old))?;
+    let view = trees_view(alloc, &trees, picker)?;
     let quiet = is_quiet(&trees);
     let next = shared_view(alloc, view, old)?;
     Ok(NextStanding {
@@ -242,8 +243,10 @@ pub(crate) fn stands_at(cluster: &Cluster, now: Time) -> bool
     }
 }
 
-/// Adds a cluster to those that read its addresses.
+/// Adds a cluster to those that read its addresses. Its serving tree reads others than its entry only where another
+/// tree waits.
 pub(crate) fn add_users(users: &mut Users, cluster: &Cluster, place: u32) -> Result<(), Memory>
+    requires { FollowsEntry cluster.now }
     ensures grows { OnOk result (Grows users.old users.new) }
     ensures entry { OnOk result (IfOk cluster.now.entry.state (λ leaves. ReadsLeaves users.new place leaves.leaves)) }
     ensures serving { OnOk result (IfOk cluster.now.state (λ s. ReadsLeaves users.new place s.trees.serving.leaves.leaves)) }
@@ -267,20 +270,28 @@ fn add_entry(users: &mut Users, entry: &ClusterEntry, place: u32) -> Result<(), 
     }
 }
 
-/// Adds a cluster to those that read the addresses of its serving tree's leaves.
+/// Adds a cluster to those that read the addresses of its serving tree's leaves, where another tree waits.
 fn add_serving(
     users: &mut Users,
     state: &Result<Shared<Standing>, Reason>,
     place: u32,
 ) -> Result<(), Memory>
     ensures grows { OnOk result (Grows users.old users.new) }
-    ensures serving { OnOk result (IfOk state.now (λ s. ReadsLeaves users.new place s.trees.serving.leaves.leaves)) }
+    ensures serving { OnOk result (IfOk state.now (λ s. IfSome s.trees.waiting (λ _. ReadsLeaves users.new place s.trees.serving.leaves.leaves))) }
 {
     match state {
-        Ok(standing) => {
-            users.add_leaves(standing.get().trees.serving().leaves(), place)?;
-            Ok(())
-        }
+        Ok(standing) => add_old(users, &standing.get().trees, place),
         Err(_) => Ok(()),
     }
+}
+
+/// Adds a cluster to those that read the addresses of the serving tree's leaves, where another tree waits.
+fn add_old(users: &mut Users, trees: &Switch<Tree>, place: u32) -> Result<(), Memory>
+    ensures grows { OnOk result (Grows users.old users.new) }
+    ensures serving { OnOk result (IfSome trees.now.waiting (λ _. ReadsLeaves users.new place trees.now.serving.leaves.leaves)) }
+{
+    if trees.waiting().is_some() {
+        users.add_leaves(trees.serving().leaves(), place)?;
+    }
+    Ok(())
 }

@@ -2,6 +2,7 @@
 #![tactic(auto)]
 
 pub(crate) mod cluster_merge;
+pub(crate) mod cluster_timers;
 pub(crate) mod cluster_trees;
 pub mod snapshot;
 pub mod tree_laws;

@@ -1,28 +1,56 @@
 //! The trees of a cluster: one serves, and a new one may wait to take over.
-ghost use Rattle.std.specs.Prelude.{◌≡◌, Some, option_map, IfOk};
+ghost use Rattle.std.specs.Prelude.{◌≡◌, if◌then◌else◌, Some, None, option_map, IfOk};
 ghost use Rattle.xds_config.specs.Configs.{AreLawfulLeaves};
-ghost use Rattle.graceful_switch.specs.Takeover.{settled};
-ghost use Rattle.tree_steps.specs.TreeSteps.{state_of, trees_after, named_children, trees_view};
+ghost use Rattle.graceful_switch.specs.Takeover.{has_to_wait, settled};
+ghost use Rattle.tree_steps.specs.TreePickers.{picker_at};
+ghost use Rattle.tree_steps.specs.TreeSteps.{state_of, trees_after, named_children};
 ghost use Rattle.tree_steps.specs.Quiet.{is_quiet, stand_at};
 
 use graceful_switch::Switch;
 use std::alloc::Global;
 use std::collections::BTreeMap;
-use tree_steps::tree::{
-    chosen_picker, follow, has_kind, is_quiet_tree, named_children, runs_on, stay,
-};
-use tree_steps::{NamedChild, Tree, TreeView};
+use tree_steps::tree::{follow, has_kind, is_quiet_tree, named_children, runs_on, stay};
+use tree_steps::{NamedChild, NextTree, Tree, TreeView};
+use weighted_lb::Picker;
 use xc_base::{Address, List, Memory, Shared, State, Time};
 use xds_config::Leaves;
 
-/// The old tree with the one that is to replace it.
-fn take_over(old: Tree, other: Tree) -> Switch<Tree>
-    ensures { result ≡ settled state_of old (Some other) }
+/// The trees of a cluster after an update.
+#[derive(Drop)]
+pub(crate) struct NextTrees {
+    pub(crate) trees: Switch<Tree>,
+    /// The picker of the serving tree's chosen child.
+    pub(crate) picker: Picker,
+}
+
+/// One tree alone.
+fn alone(next: NextTree) -> NextTrees
+    ensures trees { result.trees ≡ record { serving = next.tree; waiting = None } }
+    ensures picker { result.picker ≡ next.picker }
 {
-    let mut trees = Switch::new(old);
-    let _none = trees.replace(other);
-    let _replaced = trees.settle();
-    trees
+    NextTrees {
+        trees: Switch::new(next.tree),
+        picker: next.picker,
+    }
+}
+
+/// The old tree with the one that is to replace it.
+fn take_over(old: NextTree, other: NextTree) -> NextTrees
+    ensures trees { result.trees ≡ settled state_of old.tree (Some other.tree) }
+    ensures picker { result.picker ≡ (if has_to_wait (state_of old.tree) (state_of other.tree) then old.picker else other.picker) }
+{
+    let mut trees = Switch::new(old.tree);
+    let _none = trees.replace(other.tree);
+    match trees.settle() {
+        Some(_replaced) => NextTrees {
+            trees,
+            picker: other.picker,
+        },
+        None => NextTrees {
+            trees,
+            picker: old.picker,
+        },
+    }
 }
 
 /// The trees of a cluster after an update. A new tree waits until it isn't CONNECTING, or the old one isn't
@@ -33,13 +61,17 @@ pub(crate) fn trees_after(
     now: Time,
     leaves: &Shared<Leaves>,
     old: Option<&Switch<Tree>>,
-) -> Result<Switch<Tree>, Memory>
+) -> Result<NextTrees, Memory>
     requires { AreLawfulLeaves leaves.now }
-    ensures { IfOk result (λ trees. trees ≡ trees_after now reports.now.entries leaves.now (option_map (λ r. r.now) old.entry)) }
+    ensures trees { IfOk result (λ next. next.trees ≡ trees_after now reports.now.entries leaves.now (option_map (λ r. r.now) old.entry)) }
+    ensures picker { IfOk result (λ next. next.picker ≡ picker_at reports.now.entries next.trees.serving.leaves.leaves next.trees.serving.chosen) }
 {
     match old {
         Some(trees) => next_trees(alloc, reports, now, leaves, trees),
-        None => Ok(Switch::new(follow(alloc, reports, now, leaves, None)?)),
+        None => {
+            let tree = follow(alloc, reports, now, leaves, None)?;
+            Ok(alone(tree))
+        }
     }
 }
 
@@ -50,13 +82,14 @@ fn next_trees(
     now: Time,
     leaves: &Shared<Leaves>,
     old: &Switch<Tree>,
-) -> Result<Switch<Tree>, Memory>
+) -> Result<NextTrees, Memory>
     requires { AreLawfulLeaves leaves.now }
-    ensures { IfOk result (λ trees. trees ≡ trees_after now reports.now.entries leaves.now (Some old.now)) }
+    ensures trees { IfOk result (λ next. next.trees ≡ trees_after now reports.now.entries leaves.now (Some old.now)) }
+    ensures picker { IfOk result (λ next. next.picker ≡ picker_at reports.now.entries next.trees.serving.leaves.leaves next.trees.serving.chosen) }
 {
     if has_kind(leaves.get(), old.serving()) {
         let tree = follow(alloc, reports, now, leaves, Some(old.serving()))?;
-        Ok(Switch::new(tree))
+        Ok(alone(tree))
     } else {
         let other = follow(alloc, reports, now, leaves, old.waiting())?;
         let tree = stay(alloc, reports, now, old.serving())?;
@@ -77,20 +110,20 @@ fn waiting_children(
     }
 }
 
-/// What is seen of a cluster's trees.
+/// What is seen of a cluster's trees with this picker.
 pub(crate) fn trees_view(
     alloc: Global,
-    reports: &BTreeMap<Address, State>,
     trees: &Switch<Tree>,
+    picker: Picker,
 ) -> Result<TreeView, Memory>
-    ensures { IfOk result (λ view. view ≡ trees_view reports.now.entries trees.now) }
+    ensures { IfOk result (λ view. view ≡ record { children = named_children trees.now.serving; chosen = trees.now.serving.chosen; waiting = option_map named_children trees.now.waiting; picker = picker }) }
 {
     let serving = trees.serving();
     Ok(TreeView {
         children: named_children(alloc, serving)?,
         chosen: serving.chosen(),
         waiting: waiting_children(alloc, trees.waiting())?,
-        picker: chosen_picker(alloc, reports, serving)?,
+        picker,
     })
 }
 

@@ -2,13 +2,15 @@
 ghost use Rattle.std.specs.Prelude.{◌≡◌, ◌<◌, ◌^◌, [], false, length, map, option_map, All, AllPairs, IfOk, OnOk, Some, set};
 ghost use Rattle.xds_config.specs.Configs.{IsLawfulConfig, IsNameBefore, AreLawfulLeaves};
 ghost use Rattle.cluster_tree.specs.StandingTrees.{clusters_after, cluster_after, views_of, no_clusters, entries_of, forest_after, IsUpdatedWith, ChangesAt};
-ghost use Rattle.cluster_tree.specs.ClusterUsers.{AreReadIn, AreRead, AreReadBut, EntriesStay, OthersStay, AreStepped, StandBut};
+ghost use Rattle.cluster_tree.specs.ClusterUsers.{AreReadIn, AreRead, AreReadBut, EntriesStay, OthersStay, AreStepped, StandBut, FollowsEntry};
 ghost use Rattle.tree_steps.specs.Users.{Grows};
 ghost use Rattle.cluster_tree.specs.ViewChanges.{seen_of, IsChangeMark, MarkChanges, MarkChangesInPlace, ArePickable, localities_at};
+ghost use Rattle.cluster_tree.specs.ClusterTimers.{AreQuietBut};
 
 use crate::cluster_merge::{
-    Marks, NextClusters, Times, Turn, first_not_before, is_due, is_marked, named_at, next_cluster,
+    Marks, NextClusters, Times, Turn, find_cluster, is_due, is_marked, next_cluster,
 };
+use crate::cluster_timers::has_timers;
 use crate::cluster_trees::{
     Cluster, NextCluster, add_users, cluster_after, served_localities, view_of,
 };
@@ -47,18 +49,21 @@ pub struct Trees {
     alloc: Global,
     time: Time,
     clusters: Vec<Cluster>,
+    /// For each cluster, whether a timer of its trees may run. It stands here so that one without a timer is passed
+    /// without a look at its trees.
+    timers: Vec<bool>,
     users: Users,
 }
 
 impl Model for Trees {
     ghost use Rattle.cluster_tree.specs.StandingTrees.{Forest};
-    ghost use Rattle.cluster_tree.specs.ClusterUsers.{AreIndexed};
+    ghost use Rattle.cluster_tree.specs.ClusterTimers.{AreKept};
 
     ghost Value = { Forest };
 
     ghost view = { λ t. record { now = t.time; clusters = t.clusters.items } };
 
-    ghost invariant = { λ t. AreIndexed t.users t.clusters.items };
+    ghost invariant = { λ t. AreKept t.users t.timers.items t.clusters.items };
 }
 
 /// What is seen of the clusters.
@@ -77,7 +82,8 @@ fn views_of(
 
 /// Which clusters read which addresses.
 fn users_of(alloc: Global, clusters: &[Cluster]) -> Result<Users, Memory>
-    requires { length clusters.now < 2 ^ 31 }
+    requires few { length clusters.now < 2 ^ 31 }
+    requires follow { All FollowsEntry clusters.now }
     ensures { IfOk result (λ users. AreRead users clusters.now) }
 {
     let mut users = Users::new(alloc);
@@ -90,7 +96,8 @@ fn users_of(alloc: Global, clusters: &[Cluster]) -> Result<Users, Memory>
 
 /// Adds a cluster to those that read its addresses, where it is new at its place.
 fn add_new(users: &mut Users, cluster: &Cluster, place: u32, is_new: bool) -> Result<(), Memory>
-    requires { is_new ≡ false → AreReadIn users.old place cluster.now.entry.state cluster.now.state }
+    requires old { is_new ≡ false → AreReadIn users.old place cluster.now.entry.state cluster.now.state }
+    requires follows { FollowsEntry cluster.now }
     ensures grows { OnOk result (Grows users.old users.new) }
     ensures reads { OnOk result (AreReadIn users.new place cluster.now.entry.state cluster.now.state) }
 {
@@ -104,6 +111,7 @@ fn add_new(users: &mut Users, cluster: &Cluster, place: u32, is_new: bool) -> Re
 fn add_all_new(users: &mut Users, clusters: &[Cluster], anew: &[bool]) -> Result<(), Memory>
     requires few { length clusters.now < 2 ^ 31 }
     requires others { AreReadBut anew.now users.old clusters.now }
+    requires follow { All FollowsEntry clusters.now }
     ensures { OnOk result (AreRead users.new clusters.now) }
 {
     for (place, cluster) in clusters.iter().enumerate() {
@@ -117,6 +125,7 @@ fn add_all_new(users: &mut Users, clusters: &[Cluster], anew: &[bool]) -> Result
 fn follow_users(alloc: Global, users: &mut Users, next: &NextClusters) -> Result<(), Memory>
     requires few { length next.now.clusters.items < 2 ^ 31 }
     requires others { AreReadBut next.now.anew.items users.old next.now.clusters.items }
+    requires follow { All FollowsEntry next.now.clusters.items }
     ensures { OnOk result (AreRead users.new next.now.clusters.items) }
 {
     if users.has_doubled() {
@@ -127,17 +136,21 @@ fn follow_users(alloc: Global, users: &mut Users, next: &NextClusters) -> Result
 }
 
 /// Has each cluster take an update that is marked, or of which a timer has ended; each does where time goes
-/// back. It answers for each cluster whether what is seen of it differs from before.
+/// back. The trees of the others aren't looked at, where none of their timers runs. It answers for each cluster whether
+/// what is seen of it differs from before.
 fn step_clusters(
     alloc: Global,
     reports: &BTreeMap<Address, State>,
     times: Times,
     marks: &[bool],
     clusters: &mut Vec<Cluster>,
+    timers: &mut Vec<bool>,
 ) -> Result<Vec<bool>, Memory>
     requires marks { length marks.now ≡ length clusters.old.items }
     requires lawful { All (λ c. IfOk c.entry.state AreLawfulLeaves) clusters.old.items }
     requires others { OthersStay times.last times.this reports.now.entries marks.now clusters.old.items }
+    requires quiet { AreQuietBut timers.old.items clusters.old.items }
+    ensures quiet { AreQuietBut timers.new.items clusters.new.items }
     ensures each { AreStepped times.this reports.now.entries clusters.old.items clusters.new.items }
     ensures changed { IfOk result (λ changed. MarkChangesInPlace changed.items clusters.old.items clusters.new.items) }
     ensures all { OnOk result (clusters.new.items ≡ map (λ c. cluster_after times.this reports.now.entries c.entry (Some c)) clusters.old.items) }
@@ -149,10 +162,11 @@ fn step_clusters(
             marked: marks[place],
             is_known: true,
         };
-        if is_due(&clusters[place], turn) {
+        let timer = timers[place];
+        if is_due(&clusters[place], turn, timer) {
             let next = step_cluster(alloc, reports, times.this, &clusters[place])?;
             put_mark(&mut changed, place, next.changed);
-            put(clusters, place, next.cluster);
+            put(clusters, timers, place, next.cluster);
         }
     }
     Ok(changed)
@@ -166,8 +180,20 @@ fn put_mark(marks: &mut Vec<bool>, place: usize, mark: bool)
     marks[place] = mark;
 }
 
+/// Puts a cluster in its place, with a mark of whether a timer of its trees runs.
+fn put(clusters: &mut Vec<Cluster>, timers: &mut Vec<bool>, place: usize, next: Cluster)
+    requires place { place < length clusters.old.items }
+    requires quiet { AreQuietBut timers.old.items clusters.old.items }
+    ensures cluster { clusters.new.items ≡ set clusters.old.items place next }
+    ensures quiet { AreQuietBut timers.new.items clusters.new.items }
+{
+    let timer = has_timers(&next);
+    put_mark(timers, place, timer);
+    put_cluster(clusters, place, next);
+}
+
 /// Puts a cluster in its place.
-fn put(clusters: &mut Vec<Cluster>, place: usize, next: Cluster)
+fn put_cluster(clusters: &mut Vec<Cluster>, place: usize, next: Cluster)
     requires { place < length clusters.old.items }
     ensures { clusters.new.items ≡ set clusters.old.items place next }
 {
@@ -197,6 +223,7 @@ impl Trees {
             alloc,
             time: Time(0),
             clusters: Vec::new(alloc),
+            timers: Vec::new(alloc),
             users: Users::new(alloc),
         }
     }
@@ -217,6 +244,7 @@ impl Trees {
         ensures changed { IfOk result (λ next. MarkChanges next.changed.items self.now.clusters next.clusters.items) }
         ensures clusters { IfOk result (λ next. next.clusters.items ≡ clusters_after now reports.now.entries entries.now self.now.clusters) }
         ensures anew { IfOk result (λ next. StandBut next.anew.items self.now.clusters next.clusters.items) }
+        ensures quiet { IfOk result (λ next. AreQuietBut next.timers.items next.clusters.items) }
     {
         let times = Times {
             last: self.time,
@@ -226,14 +254,15 @@ impl Trees {
         let mut next = NextClusters::with_room(self.alloc, entries.len())?;
         let mut from = 0;
         for (place, entry) in entries.iter().enumerate() {
-            from = first_not_before(old, from, &entry.get().name);
-            let before = named_at(old, from, &entry.get().name);
+            let is_known = !is_marked(marks.entries, place);
+            let before = find_cluster(old, from, &entry.get().name, place, is_known);
+            from = before.place;
             let turn = Turn {
                 times,
                 marked: is_marked(marks.readers, from),
-                is_known: from == place && !is_marked(marks.entries, place),
+                is_known,
             };
-            let cluster = next_cluster(self.alloc, reports, turn, entry, before)?;
+            let cluster = next_cluster(self.alloc, reports, turn, entry, before.cluster)?;
             next.push(cluster, from != place)?;
         }
         Ok(next)
@@ -273,8 +302,10 @@ impl Trees {
         let views = views_of(self.alloc, &next.clusters)?;
         self.time = now;
         self.clusters = Vec::new(self.alloc);
+        self.timers = Vec::new(self.alloc);
         follow_users(self.alloc, &mut self.users, &next)?;
         self.clusters = next.clusters;
+        self.timers = next.timers;
         Ok(FollowedViews {
             seen: UpdatedViews {
                 views,
@@ -305,7 +336,14 @@ impl Trees {
             last: self.time,
             this: now,
         };
-        let changed = step_clusters(self.alloc, reports, times, &marks, &mut self.clusters)?;
+        let changed = step_clusters(
+            self.alloc,
+            reports,
+            times,
+            &marks,
+            &mut self.clusters,
+            &mut self.timers,
+        )?;
         self.time = now;
         let views = views_of(self.alloc, &self.clusters)?;
         Ok(UpdatedViews { views, changed })

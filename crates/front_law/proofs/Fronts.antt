@@ -1,13 +1,10 @@
 -- Texts that begin with others.
-use Rattle.std.proofs.Common.{ℕ, List, [], ◌++◌, sym, ap, ◌∙◌, append_assoc, append-nil, refl}
+use Rattle.std.proofs.Common.{ℕ, List, [], ◌++◌, sym, ap, ◌∙◌, append_assoc, refl}
 use Rattle.front_law.specs.FrontLaw.{IsFrontOf}
 
 -- nothing begins each text
 pub front_nothing : (text : List ℕ) → IsFrontOf [] text
 front_nothing text = record { rest = text; begins = refl }
-
-pub front_self : (text : List ℕ) → IsFrontOf text text
-front_self text = record { rest = []; begins = sym (append-nil text) }
 
 -- whatever stands behind a text
 pub front_more : (front text behind : List ℕ) → IsFrontOf front text → IsFrontOf front (text ++ behind)

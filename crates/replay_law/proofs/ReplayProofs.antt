@@ -1,17 +1,14 @@
 -- An entry that is made in the turn of a legal history's own is that one: its line and step by the plan, its refused texts by
 -- the report, and the rest by both being right.
 use Rattle.std.proofs.Common.{◌≡◌, ℕ, List, ◌∷◌, subst}
-use Rattle.call_journal.specs.declared.entry.Entry.{Entry}
 use Rattle.call_journal.specs.declared.plan.Count.{Count}
 use Rattle.call_journal.specs.declared.plan.Listed.{Listed}
-use Rattle.session_lines.specs.declared.session.Session.{Session}
 use Rattle.session_plan.specs.PlanOfSession.{plan_of}
 use Rattle.session_plan.specs.ReadablePayloads.{is_response}
 use Rattle.xds_history.specs.Setting.{Setting, setting_of}
 use Rattle.xds_history.specs.Responses.{refused_in}
 use Rattle.xds_history.specs.Right.{Right}
 use Rattle.xds_history.proofs.KeepProofs.{right_past}
-use Rattle.legal_history.specs.Legal.{Legal}
 use Rattle.book_progress.specs.ActorCounts.{count_of}
 use Rattle.book_progress.specs.PlayedPlans.{IsNextOf, step_in}
 use Rattle.next_law.proofs.NextProofs.{own_next}

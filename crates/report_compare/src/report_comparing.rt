@@ -116,8 +116,8 @@ pub fn compare(
     Ok(Some(mistake))
 }
 
-/// The mistake of a report whose turns end by a mistake, where this was played: that one, if what stands above it begins the
-/// text of what was played, and else the first difference. That text has no last line.
+/// The mistake of a report whose turns end early, where this was played: the first line that differs from the text of what was
+/// played, which has no last line. Where the text ends before any line differs, the mistake says why the turns end.
 pub fn compare_until(
     alloc: Global,
     part: PlayedPart<'_>,

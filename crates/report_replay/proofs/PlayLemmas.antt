@@ -49,12 +49,6 @@ IsMade result = (result ≡ Ok None) ⊎ (result ≡ Err halt.Memory)
 actors_are : (plan : Option (List (List Listed))) (boot : Bootstrap) (target : Target) (session : Session) (lists : List (List Listed)) (n : ℕ) → IsOfSession plan boot target session lists → HasActors plan n → length lists ≡ n
 actors_are plan boot target session lists n of has = subst (λ (p : Option (List (List Listed))). HasActors p n) of.plan_is has
 
-pub seats_are_done : (plan : Option (List (List Listed))) (boot : Bootstrap) (target : Target) (session : Session) (history : List Entry) (lists : List (List Listed)) (book : BookView) (seats : List SeatView)
-    → IsLegalReplay plan boot target session history lists → HasActors plan (length book.counts) → HasSwept history book seats → AreDone lists seats
-seats_are_done plan boot target session history lists book seats replay actors swept =
-    let h : Legal session (swept.sweep ∷ swept.past) = subst (λ (es : List Entry). Legal session es) (sym swept.whole) replay.legal in
-    seats_done session swept.past swept.sweep lists book seats h replay.of.lists_are (actors_are plan boot target session lists (length book.counts) replay.of actors) swept.come
-
 goes : (plan : Option (List (List Listed))) (boot : Bootstrap) (target : Target) (session : Session) (history : List Entry) (lists : List (List Listed)) (parting : Parting) (made : ℕ) (turn : EntryTurn) (book : BookView) (replay : ReplayView) (result : Played)
     → IsLegalReplay plan boot target session history lists → HasActors plan (length book.counts) → (of : IsTurnOf session history parting made turn book replay) → (later : List Entry) → later ≡ of.later
     → (AreSeated book replay.seats → IsDue lists turn.actor turn.line book → turn.line ≢ 0 → IsMade result) → (AreSeated book replay.seats → AreDone lists replay.seats → IsSweepNext lists turn.actor turn.line book → result ≡ Ok None) → IsMade result
@@ -226,9 +220,6 @@ if_ok F G (Ok value) each holds = each value holds
 if_ok F G (Err fault) each holds = tt
 
 -- ---- all turns
-
-pub line_left : (found : Option ℕ) (line : ℕ) → found ≡ None → found ≡ Some line → ⊥
-line_left found line none some = absurd (cc (none, some))
 
 few : (n entries : ℕ) → n ≤ entries + 1 → entries ≤ 1048576 → n ≡ 2 ^ 32 - 1 → ⊥
 few n entries most room is = omega (arith, most, room, is)

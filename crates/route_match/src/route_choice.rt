@@ -1,5 +1,5 @@
 //! Which route a call takes.
-ghost use Rattle.std.specs.Prelude.{◌≡◌, ◌≤◌, ◌<◌, ◌+◌, ◌*◌, ◌/◌, ◌^◌, length, sum, All, AllPairs, IfOk, OnOk};
+ghost use Rattle.std.specs.Prelude.{◌≡◌, ◌≤◌, ◌<◌, ◌+◌, ◌*◌, ◌/◌, ◌^◌, false, length, sum, All, AllPairs, IfOk, OnOk};
 ghost use Rattle.std.specs.List.{list_all};
 ghost use Rattle.xds_config.specs.RouteValues.{IsLawfulRoute, IsLawfulAction, IsLawfulSplit, weights_of};
 ghost use Rattle.xds_config.specs.Configs.{IsLawfulFront};
@@ -59,39 +59,57 @@ fn take_route<L: Ledger>(
     ensures cost { OnOk result (steps.new ≡ steps.old + tried routes.now call.now) }
     ensures later { steps.old ≤ steps.new }
 {
+    let path = call.path.as_str();
     for route in routes {
         steps.tick();
-        if route_met(alloc, call, route)? {
+        if route_met(alloc, path, call, route)? {
             return Ok(destination(call.word, route));
         }
     }
     Ok(RouteAnswer::NoRoute)
 }
 
-/// Whether a route is for the call: its path, all its headers and its fraction hold.
-fn route_met(alloc: Global, call: &Call, route: &Route) -> Result<bool, Memory>
-    requires { route.now.place < 2 ^ 31 }
+/// Whether a route is for a call of this path: its path, all its headers and its fraction hold.
+fn route_met(alloc: Global, path: &str, call: &Call, route: &Route) -> Result<bool, Memory>
+    requires own { path.now ≡ call.now.path }
+    requires small { route.now.place < 2 ^ 31 }
     ensures { IfOk result (λ met. met ≡ route_met call.now route.now) }
 {
-    if !path_met(&route.path, call)? || !headers_met(alloc, route.headers.as_slice(), call)? {
+    if !fits(&route.path, path) {
+        return Ok(false);
+    }
+    if !path_met(&route.path, path)? || !headers_met(alloc, route.headers.as_slice(), call)? {
         return Ok(false);
     }
     Ok(share_met(route.fraction, draw(call.word, 2 * route.place)))
 }
 
-/// Whether the path of a call meets a test.
-fn path_met(test: &PathTest, call: &Call) -> Result<bool, Memory>
-    ensures { IfOk result (λ met. met ≡ path_met test.now call.now.path) }
+/// Whether a path is long enough for a test, or of its very length. This tells most paths apart, and costs no call.
+fn fits(test: &PathTest, path: &str) -> bool
+    ensures { result ≡ false → path_met test.now path.now ≡ false }
 {
-    let path = call.path.as_str().as_bytes();
     match test {
-        PathTest::Prefix { text, case } => Ok(begins_with(path, text.as_str().as_bytes(), !*case)),
-        PathTest::Whole { text, case } => Ok(is_same(path, text.as_str().as_bytes(), !*case)),
-        PathTest::Pattern(pattern) => pattern.meets(call.path.as_str()),
+        PathTest::Prefix { text, .. } => text.len() <= path.len(),
+        PathTest::Whole { text, .. } => text.len() == path.len(),
+        PathTest::Pattern(_) => true,
     }
 }
 
-/// Whether a call meets all header rules of a route.
+/// Whether a path meets a test. Few paths fit one, so that its code stands apart from the walk over the routes.
+#[inline(never)]
+fn path_met(test: &PathTest, path: &str) -> Result<bool, Memory>
+    ensures { IfOk result (λ met. met ≡ path_met test.now path.now) }
+{
+    let bytes = path.as_bytes();
+    match test {
+        PathTest::Prefix { text, case } => Ok(begins_with(bytes, text.as_str().as_bytes(), !*case)),
+        PathTest::Whole { text, case } => Ok(is_same(bytes, text.as_str().as_bytes(), !*case)),
+        PathTest::Pattern(pattern) => pattern.meets(path),
+    }
+}
+
+/// Whether a call meets all header rules of a route. It stands apart, too.
+#[inline(never)]
 fn headers_met(alloc: Global, rules: &[HeaderRule], call: &Call) -> Result<bool, Memory>
     ensures { IfOk result (λ met. met ≡ list_all (λ rule. header_met rule call.now) rules.now) }
 {

@@ -1,5 +1,5 @@
 -- The children of leaves.
-use Rattle.std.proofs.Common.{◌≡◌, ℕ, ◌+◌, ◌-◌, ◌<◌, ◌≤◌, suc, List, [], ◌∷◌, ◌++◌, length, map, take, get_or, cond, Bool, append_assoc, Option, Some, None, refl, sym, ap, ◌∙◌, subst, arith, length-append}
+use Rattle.std.proofs.Common.{◌≡◌, ℕ, ◌+◌, ◌-◌, ◌<◌, ◌≤◌, zero, suc, List, [], ◌∷◌, ◌++◌, length, map, take, get_or, cond, Bool, append_assoc, Option, Some, None, refl, sym, ap, ◌∙◌, subst, arith, length-append}
 use Rattle.std.specs.Prelude.{All, replicate, slice_get}
 use Rattle.std.specs.Option.{option_map_or}
 use Rattle.std.specs.List.{range_with_len, position_from, zip}
@@ -75,14 +75,10 @@ pub child_at : (children : List LentChild) (place : ℕ) (child : LentChild) →
 child_at children place child lt is =
     slice_get-get_or (all_lent children) place (lent child) (rw length-lent lt) ∙ ap Some (get_or-map lent children place child (lent child) lt ∙ ap lent (sym is))
 
-pub holds_at : (P : Leaf → Type 0) (leaves : List Leaf) (children : List LentChild) (place : ℕ) (child : LentChild) → All P leaves → all_lent children ≡ children_of leaves →
-    place < length children → child ≡ get_or children place child → P (lent child).0
-holds_at P leaves children place child all same lt is =
-    let each = all_children P leaves all in
-    let long : place < length (children_of leaves) = rw (← same, length-lent children) lt in
-    let at : get_or (children_of leaves) place (lent child) ≡ lent child =
-    ap (λ (cs : List Child). get_or cs place (lent child)) (sym same) ∙ (get_or-map lent children place child (lent child) lt ∙ ap lent (sym is)) in
-    subst (λ (c : Child). P c.0) at (each place (lent child) long)
+-- what holds of all children holds of the one at a place
+pub lent_holds : (P : Child → Type 0) (children : List LentChild) (place : ℕ) (child : LentChild) → All P (all_lent children) → place < length children → child ≡ get_or children place child → P (lent child)
+lent_holds P children place child all lt is =
+    subst P (get_or-map lent children place child (lent child) lt ∙ ap lent (sym is)) (all place (lent child) (rw length-lent lt))
 
 -- one more child of a leaf
 pub child_more : (start : List Child) (old new : List LentChild) (leaf : Leaf) (n : ℕ) (child : LentChild) → all_lent old ≡ start ++ map (with_leaf leaf) (range_with_len 0 n) → new ≡ old ++ child ∷ [] →
@@ -121,12 +117,18 @@ one_more P old new x all holds is = subst (λ xs. All P xs) (sym is) (All-append
 pub some_lent : (children : List LentChild) (leaves : List Leaf) → all_lent children ≡ children_of leaves → 0 < length leaves → 0 < length children
 some_lent children leaves same some = let a = some_children leaves some in let b = ap length same in let c = length-lent children in omega (arith, a, b, c)
 
--- the picker of the child at a place
-pub picker_is : (r : Reports) (leaves : List Leaf) (children : List LentChild) (place : ℕ) (child : LentChild) (picker : Picker) → all_lent children ≡ children_of leaves → place < length children →
-    child ≡ get_or children place child → picker ≡ child_picker r (lent child) → picker ≡ picker_at r leaves place
-picker_is r leaves children place child picker same lt is made =
-    let at : slice_get (children_of leaves) place ≡ Some (lent child) = ap (λ (cs : List Child). slice_get cs place) (sym same) ∙ child_at children place child lt is in
-    made ∙ sym (ap (λ (o : Option Child). option_map_or (child_picker r) o (record { drops = []; body = body.Queue })) at)
+at_mapped : {A B : Type 0} (f : A → B) (xs : List A) (n : ℕ) (none d : B) → n < length (map f xs) → get_or (map f xs) n d ≡ option_map_or f (slice_get xs n) none
+at_mapped f [] n none d lt = absurd (omega arith)
+at_mapped f (x ∷ xs) zero none d lt = refl
+at_mapped f (x ∷ xs) (suc n) none d lt = at_mapped f xs n none d (omega arith)
+
+-- the picker at a place is that of the child there
+pub picked_at : (r : Reports) (leaves : List Leaf) (children : List LentChild) (pickers : List Picker) (place : ℕ) (picker : Picker) → all_lent children ≡ children_of leaves → pickers ≡ map (child_picker r) (all_lent children) →
+    place < length pickers → picker ≡ get_or pickers place picker → picker ≡ picker_at r leaves place
+picked_at r leaves children pickers place picker same are lt is =
+    let all : pickers ≡ map (child_picker r) (children_of leaves) = are ∙ ap (map (child_picker r)) same in
+    let within : place < length (map (child_picker r) (children_of leaves)) = subst (λ (ps : List Picker). place < length ps) all lt in
+    is ∙ (ap (λ (ps : List Picker). get_or ps place picker) all ∙ at_mapped (child_picker r) (children_of leaves) place (record { drops = []; body = body.Queue }) picker within)
 
 -- the localities of the child at a place
 pub localities_are : (leaves : List Leaf) (children : List LentChild) (place : ℕ) (child : LentChild) (found : List Locality) → all_lent children ≡ children_of leaves → place < length children → child ≡ get_or children place child →

@@ -2,15 +2,13 @@
 ghost use Rattle.std.specs.Prelude.{◌≡◌, ◌≤◌, ◌<◌, ◌+◌, ◌^◌, ◌++◌, map, length, All, IfOk, IfSome};
 ghost use Rattle.std.specs.List.{range_with_len};
 ghost use Rattle.std.specs.List.{position_from};
-ghost use Rattle.tree_steps.specs.Reports.{localities_of, priority_count, leaf_children, children_of, name_of, child_in};
+ghost use Rattle.tree_steps.specs.Reports.{localities_of, priority_count, leaf_children, children_of, name_of};
 ghost use Rattle.priority_lb.specs.ChildHistories.{same_name};
 ghost use Rattle.priority_lb.specs.ChildLaws.{places};
 ghost use Rattle.tree_steps.specs.Lent.{lent, all_lent};
 
-use crate::reports::{at_priority, priority_in};
 use std::alloc::Global;
-use std::collections::BTreeMap;
-use xc_base::{Address, Memory, Same, State};
+use xc_base::{Memory, Same};
 use xds_config::{Leaf, Locality};
 
 /// A child of a tree (gRFC A56).
@@ -66,33 +64,6 @@ fn with_children<'a>(mut children: Vec<Child<'a>>, leaf: &'a Leaf) -> Result<Vec
         })?;
     }
     Ok(children)
-}
-
-/// The states of children, or want of memory.
-pub fn states_of(
-    alloc: Global,
-    reports: &BTreeMap<Address, State>,
-    children: &[Child<'_>],
-) -> Result<Vec<State>, Memory>
-    ensures { IfOk result (λ states. states.items ≡ map (child_in reports.now.entries) (all_lent children.now)) }
-{
-    let mut states = Vec::with_capacity(alloc, children.len())?;
-    for child in children {
-        states.push(state_of(alloc, reports, *child)?)?;
-    }
-    Ok(states)
-}
-
-/// The state of a child over its localities, or want of memory. One without localities is failing.
-pub fn state_of(
-    alloc: Global,
-    reports: &BTreeMap<Address, State>,
-    child: Child<'_>,
-) -> Result<State, Memory>
-    ensures { IfOk result (λ state. state ≡ child_in reports.now.entries (lent child.entry)) }
-{
-    let localities = at_priority(alloc, child.priority, localities_of(child.leaf))?;
-    priority_in(alloc, reports, &localities)
 }
 
 /// Whether two children have one name.

@@ -3,12 +3,13 @@
 #![tactic(auto)]
 
 pub mod leaf_children;
+mod list_room;
 pub mod pickers;
 pub mod reports;
 pub mod tree;
 pub mod tree_view;
 pub mod users;
 
-pub use tree::Tree;
+pub use tree::{NextTree, Tree};
 pub use tree_view::{NamedChild, TreeView};
 pub use users::Users;

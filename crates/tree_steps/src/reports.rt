@@ -1,13 +1,22 @@
 //! States by what endpoints report.
 ghost use Rattle.std.specs.Prelude.{◌≡◌, ◌==◌, map, IfOk, filter};
-ghost use Rattle.tree_steps.specs.Reports.{state_in, locality_in, at_priority};
-ghost use Rattle.weighted_lb.specs.States.{joined};
+ghost use Rattle.tree_steps.specs.Reports.{state_in, at_priority};
+ghost use Rattle.weighted_lb.specs.States.{is_ready};
 
+use crate::list_room::with_member;
 use std::alloc::Global;
 use std::collections::BTreeMap;
-use weighted_lb::{locality_state, weighted_state};
-use xc_base::{Address, Memory, State};
+use xc_base::{Address, List, Memory, State};
 use xds_config::Locality;
+
+/// The states of addresses.
+#[derive(Drop)]
+pub struct AddressStates {
+    /// The state of each.
+    pub states: Vec<State>,
+    /// Those that are READY.
+    pub ready: List<Address>,
+}
 
 /// The state that an address reported last; before that it is CONNECTING.
 pub fn state_in(reports: &BTreeMap<Address, State>, address: &Address) -> State
@@ -19,19 +28,32 @@ pub fn state_in(reports: &BTreeMap<Address, State>, address: &Address) -> State
     }
 }
 
-/// The state of a locality over its addresses, or want of memory.
-pub fn locality_in(
+/// Whether the state is READY.
+pub(crate) fn is_ready(state: State) -> bool
+    ensures { result ≡ is_ready state }
+{
+    matches!(state, State::Ready)
+}
+
+/// The states of addresses, or want of memory. Each address is looked up once.
+pub fn address_states(
     alloc: Global,
     reports: &BTreeMap<Address, State>,
-    locality: &Locality,
-) -> Result<State, Memory>
-    ensures { IfOk result (λ state. state ≡ locality_in reports.now.entries locality.now) }
+    addresses: &[Address],
+) -> Result<AddressStates, Memory>
+    ensures states { IfOk result (λ read. read.states.items ≡ map (state_in reports.now.entries) addresses.now) }
+    ensures ready { IfOk result (λ read. read.ready ≡ filter (λ a. is_ready (state_in reports.now.entries a)) addresses.now) }
 {
-    let mut states = Vec::with_capacity(alloc, locality.addresses.len())?;
-    for address in locality.addresses.as_slice() {
-        states.push(state_in(reports, address))?;
+    let mut states = Vec::with_capacity(alloc, addresses.len())?;
+    let mut ready = List::new(alloc);
+    for address in addresses {
+        let state = state_in(reports, address);
+        states.push(state)?;
+        if is_ready(state) {
+            ready = with_member(alloc, ready, address.clone()?, addresses.len())?;
+        }
     }
-    Ok(locality_state(&states))
+    Ok(AddressStates { states, ready })
 }
 
 /// The localities of a priority in their order, or want of memory.
@@ -46,19 +68,4 @@ pub fn at_priority<'a>(
         .iter()
         .filter(|locality| locality.priority == priority)
         .collect(alloc)
-}
-
-/// The state of a priority over its localities, or want of memory.
-pub fn priority_in(
-    alloc: Global,
-    reports: &BTreeMap<Address, State>,
-    localities: &[&Locality],
-) -> Result<State, Memory>
-    ensures { IfOk result (λ state. state ≡ joined (map (locality_in reports.now.entries) (map (λ l. l.now) localities.now))) }
-{
-    let mut states = Vec::with_capacity(alloc, localities.len())?;
-    for locality in localities {
-        states.push(locality_in(alloc, reports, locality)?)?;
-    }
-    Ok(weighted_state(&states))
 }

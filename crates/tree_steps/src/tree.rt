@@ -10,8 +10,8 @@ ghost use Rattle.tree_steps.specs.TreePickers.{picker_at};
 ghost use Rattle.tree_steps.specs.TreeSteps.{names_before, children_before, followed, stayed, state_of, has_kind, named_children, chosen_localities};
 ghost use Rattle.tree_steps.specs.Quiet.{are_quiet};
 
-use crate::leaf_children::{Child, children_of, localities_of, places_in, states_of};
-use crate::pickers::child_picker;
+use crate::leaf_children::{Child, children_of, localities_of, places_in};
+use crate::pickers::balancing_states;
 use crate::reports::at_priority;
 use crate::tree_view::NamedChild;
 use graceful_switch::Serves;
@@ -44,6 +44,14 @@ impl Model for Tree {
     ghost view = { λ t. record { leaves = t.leaves; children = t.children; chosen = t.chosen } };
 
     ghost invariant = { λ t. AreLawfulLeaves t.leaves × (length t.children ≡ length (children_of t.leaves.leaves)) × (t.chosen < length t.children) × (t.count ≡ length t.children) × (length t.children < 2 ^ 32) };
+}
+
+/// A tree after an update.
+#[derive(Drop)]
+pub struct NextTree {
+    pub tree: Tree,
+    /// The picker of its chosen child.
+    pub picker: Picker,
 }
 
 impl Serves for Tree {
@@ -146,20 +154,23 @@ pub fn follow(
     now: Time,
     leaves: &Shared<Leaves>,
     old: Option<&Tree>,
-) -> Result<Tree, Memory>
+) -> Result<NextTree, Memory>
     requires { AreLawfulLeaves leaves.now }
-    ensures { IfOk result (λ tree. tree ≡ followed now reports.now.entries leaves.now (option_map (λ r. r.now) old.entry)) }
+    ensures tree { IfOk result (λ next. next.tree ≡ followed now reports.now.entries leaves.now (option_map (λ r. r.now) old.entry)) }
+    ensures picker { IfOk result (λ next. next.picker ≡ picker_at reports.now.entries leaves.now.leaves next.tree.chosen) }
 {
     let named = children_of(alloc, leaves.get().leaves.as_slice())?;
-    let states = states_of(alloc, reports, &named)?;
+    let mut told = balancing_states(alloc, reports, &named)?;
     let mut children = begin(alloc, &named, old)?;
-    let chosen = children.update(&states, now);
-    Ok(Tree {
+    let chosen = children.update(&told.states, now);
+    let picker = told.pickers.swap_remove(chosen as usize);
+    let tree = Tree {
         leaves: leaves.share()?,
         children,
         count: child_count(&named)?,
         chosen,
-    })
+    };
+    Ok(NextTree { tree, picker })
 }
 
 /// A tree after an update at which it stays with its leaves, or want of memory.
@@ -168,8 +179,9 @@ pub fn stay(
     reports: &BTreeMap<Address, State>,
     now: Time,
     old: &Tree,
-) -> Result<Tree, Memory>
-    ensures { IfOk result (λ tree. tree ≡ stayed now reports.now.entries old.now) }
+) -> Result<NextTree, Memory>
+    ensures tree { IfOk result (λ next. next.tree ≡ stayed now reports.now.entries old.now) }
+    ensures picker { IfOk result (λ next. next.picker ≡ picker_at reports.now.entries old.now.leaves.leaves next.tree.chosen) }
 {
     follow(alloc, reports, now, &old.leaves, Some(old))
 }
@@ -202,19 +214,6 @@ pub fn named_children(alloc: Global, tree: &Tree) -> Result<List<NamedChild>, Me
         named.push(named_child(*child, tree.view(place as u32))?)?;
     }
     Ok(named)
-}
-
-/// The picker of the chosen child of a tree, or want of memory.
-pub fn chosen_picker(
-    alloc: Global,
-    reports: &BTreeMap<Address, State>,
-    tree: &Tree,
-) -> Result<Picker, Memory>
-    ensures { IfOk result (λ picker. picker ≡ picker_at reports.now.entries tree.now.leaves.leaves tree.now.chosen) }
-{
-    let children = tree.list_children(alloc)?;
-    let picker = child_picker(alloc, reports, children[tree.chosen() as usize])?;
-    Ok(picker)
 }
 
 /// The localities of a child.

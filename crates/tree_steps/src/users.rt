@@ -75,10 +75,11 @@ impl Users {
         ensures grows { OnOk result (Grows self.old self.new) }
         ensures added { OnOk result (Contains (users_at self.new address.now) place) }
     {
-        if has_place(self.at(address), place) {
+        let readers = self.at(address);
+        if has_place(readers, place) {
             return Ok(());
         }
-        let places = with_place(self.alloc, self.at(address), place)?;
+        let places = with_place(self.alloc, readers, place)?;
         self.places.insert(address.clone()?, places)?;
         self.count = self.count.saturating_add(1);
         Ok(())

@@ -190,18 +190,6 @@ nothing_left plan seat now found same free some none =
     subst (λ (s : SeatView). HasNoLineLeft plan s) same
     (λ counted listed is. absurd (none-some listed (sym none ∙ some listed (free_pins seat.up (seat.lane.count.pins ≡ 0) free counted) is)))
 
--- or for which an event of line 0 is listed next
-pub sweep_left : (plan : List (List Listed)) (seat now : SeatView) (next : Listed) → seat ≡ now → IsListed plan seat.lane.actor seat.lane.count next → next.line ≡ 0 → HasNoLineLeft plan now
-sweep_left plan seat now next same is zeroth =
-    subst (λ (s : SeatView). HasNoLineLeft plan s) same
-    (λ counted listed other. ap (λ (l : Listed). l.line) (one_listed plan seat.lane.actor seat.lane.count listed next other is) ∙ zeroth)
-
--- or where a pin is up whose call starts in line 0
-pub up_left : (lists : List (List Listed)) (plan : Option (List (List Listed))) (seat now : SeatView) (up : UpView) → seat ≡ now → plan ≡ Some lists → IsUp plan seat.lane up → up.line ≡ 0 → HasNoLineLeft lists now
-up_left lists plan seat now up same is has zeroth =
-    subst (λ (s : SeatView). HasNoLineLeft lists s) same
-    (λ counted listed next. ap (λ (l : Listed). l.line) (sym (up_listed lists plan seat.lane up listed is has.listed next)) ∙ zeroth)
-
 -- or at any seat behind the last one
 pub all_behind : (plan : List (List Listed)) (seats : List SeatView) (i : ℕ) → length seats ≤ i → All (HasNoLineLeft plan) (drop i seats)
 all_behind plan seats i beyond = subst (λ (ss : List SeatView). All (HasNoLineLeft plan) ss) (sym (drop_all i seats beyond)) (All-nil (HasNoLineLeft plan))

@@ -1,11 +1,10 @@
-use Rattle.std.proofs.Common.{List, ap, ◌∙◌, subst}
-use Rattle.xds_config.specs.declared.config.Leaf.{Leaf}
-use Rattle.tree_steps.specs.TreeSteps.{TreeFacts}
+use Rattle.std.proofs.Common.{subst}
+use Rattle.std.specs.Prelude.{IfSome, OnOk}
 use Rattle.tree_steps.specs.Users.{ReadsLeaves}
 use Rattle.cluster_tree.specs.declared.cluster_trees.Standing.{Standing}
 use Rattle.cluster_tree.proofs.cluster_trees.add_serving.Goals as goal
 
-pub returns-in_ok-add_leaves-in-Ok-clause-serving : goal.returns-in_ok-add_leaves-in-Ok-clause-serving
-returns-in_ok-add_leaves-in-Ok-clause-serving c =
+pub returns-in-Ok-clause-serving : goal.returns-in-Ok-clause-serving
+returns-in-Ok-clause-serving c =
     rw (c.in-Ok.is)
-    (subst (λ (xs : List Leaf). ReadsLeaves c.add_leaves.new.self c.args.place xs) (c.leaves.ensures ∙ (ap (λ (t : TreeFacts). t.leaves.leaves) c.serving.ensures ∙ ap (λ (s : Standing). s.trees.serving.leaves.leaves) c.get.ensures)) c.in_ok-add_leaves-in-Ok.ensures.added)
+    (subst (λ (s : Standing). OnOk c.add_old.result (IfSome s.trees.waiting (λ _. ReadsLeaves c.add_old.new.users c.args.place s.trees.serving.leaves.leaves))) c.get.ensures c.add_old.ensures.serving)

@@ -5,8 +5,8 @@ use Rattle.tree_steps.proofs.UserLemmas.{grows_on}
 use Rattle.cluster_tree.proofs.ClusterLemmas.{read_by, read_more, read_all}
 use Rattle.cluster_tree.proofs.trees.add_all_new.Goals as goal
 
-pub add_new-requires : goal.add_new-requires
-add_new-requires c = λ off.
+pub add_new-requires-clause-old : goal.add_new-requires-clause-old
+add_new-requires-clause-old c = λ off.
     let x : Cluster = c.index-clusters-place.result in
     read_by c.args.users.now c.loop-place.users c.loop-place.place x c.loop-place.invariant.grows
     (subst (λ (y : Cluster). AreReadIn c.args.users.now c.loop-place.place y.entry.state y.state) (sym c.index-clusters-place.is)

@@ -1,43 +1,59 @@
-use Rattle.std.proofs.Common.{◌≡◌, ◌<◌, ℕ, Option, List, length, get_or, sym, ap, ◌∙◌, subst}
-use Rattle.std.specs.Prelude.{option_map, not, ◌==◌, IfSome}
+use Rattle.std.proofs.Common.{◌≡◌, ◌<◌, ℕ, Bool, true, false, Some, Option, List, length, get_or, refl, sym, ap, ◌∙◌, subst}
+use Rattle.std.specs.Prelude.{option_map, slice_get, not, ◌==◌, IfSome}
+use Rattle.cluster_tree.proofs.TimerLemmas.{quiet_more}
 use Rattle.xds_config.specs.declared.config.ClusterEntry.{ClusterEntry}
 use Rattle.cluster_tree.specs.declared.cluster_trees.Cluster.{Cluster}
-use Rattle.cluster_tree.specs.StandingTrees.{cluster_after, cluster_named}
+use Rattle.cluster_tree.specs.StandingTrees.{Forest, cluster_after, cluster_named}
 use Rattle.cluster_tree.specs.ViewChanges.{seen_of, IsChangeMark}
-use Rattle.cluster_tree.specs.ClusterUsers.{IsReached}
+use Rattle.cluster_tree.specs.ClusterUsers.{EntriesStay, IsReached}
 use Rattle.cluster_tree.proofs.ForestLemmas.{clusters_more}
 use Rattle.cluster_tree.proofs.ChangeLemmas.{marks_more}
-use Rattle.cluster_tree.proofs.MergeLemmas.{AreBefore, long_so_far, neither, passed_here, passed_more, stand_more, unmoved}
+use Rattle.cluster_tree.proofs.MergeLemmas.{AreBefore, known_entry, known_name, long_so_far, neither, passed_here, passed_more, stand_more, unmoved}
 use Rattle.cluster_tree.proofs.trees.Trees.clusters_after.Goals as goal
 
-pub first_not_before-from-requires-clause-passed : goal.first_not_before-from-requires-clause-passed
-first_not_before-from-requires-clause-passed c =
+pub find_cluster-before-requires-clause-passed : goal.find_cluster-before-requires-clause-passed
+find_cluster-before-requires-clause-passed c =
     subst (λ (e : ClusterEntry). AreBefore c.as_slice-old.result.now c.loop-place.from e.name) (sym c.get.ensures)
     (passed_here c.as_slice-old.result.now c.loop-place.from c.args.entries.now c.loop-place.place c.index-entries-place.result c.loop-place-test.true c.index-entries-place.is c.loop-place.invariant.passed)
+
+pub find_cluster-before-requires-clause-known : goal.find_cluster-before-requires-clause-known
+find_cluster-before-requires-clause-known c = λ known.
+    let unmarked : not (get_or c.args.marks.entries.now c.loop-place.place false) ≡ true = subst (λ (b : Bool). not b ≡ true) c.is_marked-is_known.ensures known in
+    subst (λ (e : ClusterEntry). option_map (λ (x : Cluster). x.entry.name) (slice_get c.as_slice-old.result.now c.loop-place.place) ≡ Some e.name) (sym c.get.ensures)
+    (known_name c.args.marks.entries.now c.as_slice-old.result.now c.args.entries.now c.loop-place.place c.index-entries-place.result
+    (subst (λ (cs : List Cluster). EntriesStay c.args.marks.entries.now cs c.args.entries.now) (sym (c.as_slice-old.ensures.value ∙ ap (λ (f : Forest). f.clusters) c.self.view_is)) c.requires.known) c.loop-place-test.true c.index-entries-place.is unmarked)
+
+pub next_cluster-requires-clause-known : goal.next_cluster-requires-clause-known
+next_cluster-requires-clause-known c = λ known.
+    let unmarked : not (get_or c.args.marks.entries.now c.loop-place.place false) ≡ true = subst (λ (b : Bool). not b ≡ true) c.is_marked-is_known.ensures known in
+    known_entry c.args.marks.entries.now c.as_slice-old.result.now c.args.entries.now c.find_cluster-before.result.place c.loop-place.place c.index-entries-place.result (option_map (λ r. r.now) c.find_cluster-before.result.cluster)
+    (subst (λ (cs : List Cluster). EntriesStay c.args.marks.entries.now cs c.args.entries.now) (sym (c.as_slice-old.ensures.value ∙ ap (λ (f : Forest). f.clusters) c.self.view_is)) c.requires.known) c.loop-place-test.true c.index-entries-place.is c.find_cluster-before.ensures.here (c.find_cluster-before.ensures.own known) unmarked
 
 pub loop-place-preserved : goal.loop-place-preserved
 loop-place-preserved c =
     let entry : ClusterEntry = c.index-entries-place.result in
     let next : Cluster = c.in_ok-cluster.cluster.cluster in
     let old : List Cluster = c.as_slice-old.result.now in
-    let reached : IsReached old entry.name c.first_not_before-from.result = subst (λ (e : ClusterEntry). IsReached old e.name c.first_not_before-from.result) c.get.ensures c.first_not_before-from.ensures in
-    let here : option_map (λ r. r.now) c.named_at-before.result ≡ cluster_named entry.name old = c.named_at-before.ensures.named ∙ ap (λ (e : ClusterEntry). cluster_named e.name old) c.get-in-loop-place.ensures in
+    let reached : IsReached old entry.name c.find_cluster-before.result.place = subst (λ (e : ClusterEntry). IsReached old e.name c.find_cluster-before.result.place) c.get.ensures c.find_cluster-before.ensures.reached in
+    let here : option_map (λ r. r.now) c.find_cluster-before.result.cluster ≡ cluster_named entry.name old = c.find_cluster-before.ensures.named ∙ ap (λ (e : ClusterEntry). cluster_named e.name old) c.get.ensures in
     let made : next ≡ cluster_after c.args.now c.args.reports.now.entries entry (cluster_named entry.name old) =
     c.in_ok-cluster.ensures.cluster ∙ ap (λ (o : Option Cluster). cluster_after c.args.now c.args.reports.now.entries entry o) here in
-    let named : option_map (λ r. r.now) c.named_at-before.result ≡ cluster_named next.entry.name old =
+    let named : option_map (λ r. r.now) c.find_cluster-before.result.cluster ≡ cluster_named next.entry.name old =
     here ∙ ap (λ (e : ClusterEntry). cluster_named e.name old) (sym (ap (λ (k : Cluster). k.entry) made)) in
     record {
       within = reached.within;
-      passed = passed_more old c.first_not_before-from.result c.args.entries.now c.loop-place.place entry c.loop-place-test.true c.index-entries-place.is c.requires.rising reached;
+      passed = passed_more old c.find_cluster-before.result.place c.args.entries.now c.loop-place.place entry c.loop-place-test.true c.index-entries-place.is c.requires.rising reached;
       clusters = clusters_more c.args.now c.args.reports.now.entries old c.args.entries.now c.loop-place.place entry c.loop-place.next.clusters.items c.push.new.self.clusters.items next c.loop-place-test.true c.index-entries-place.is
           c.loop-place.invariant.clusters c.in_ok-push.ensures.clusters made;
       marks = marks_more old c.loop-place.next.clusters.items c.push.new.self.clusters.items c.loop-place.next.changed.items c.push.new.self.changed.items next c.in_ok-cluster.cluster.changed c.loop-place.invariant.marks
           c.in_ok-push.ensures.clusters c.in_ok-push.ensures.changed (subst (λ (o : Option Cluster). IsChangeMark c.in_ok-cluster.cluster.changed (option_map seen_of o) (seen_of next)) named c.in_ok-cluster.ensures.changed);
       stand = stand_more old c.loop-place.next.clusters.items c.push.new.self.clusters.items c.loop-place.next.anew.items c.push.new.self.anew.items next _ c.loop-place.invariant.stand
           c.in_ok-push.ensures.clusters c.in_ok-push.ensures.anew (λ off.
-          let both = neither c.in_ok-cluster.cluster.anew (not (c.first_not_before-from.result == c.loop-place.place)) off in
-          let stood = subst (λ (o : Option Cluster). IfSome o (λ x. (c.first_not_before-from.result < length old) × (get_or old c.first_not_before-from.result x ≡ x))) (c.in_ok-cluster.ensures.anew both.0) c.named_at-before.ensures.here in
+          let both = neither c.in_ok-cluster.cluster.anew (not (c.find_cluster-before.result.place == c.loop-place.place)) off in
+          let stood = subst (λ (o : Option Cluster). IfSome o (λ x. (c.find_cluster-before.result.place < length old) × (get_or old c.find_cluster-before.result.place x ≡ x))) (c.in_ok-cluster.ensures.anew both.0) c.find_cluster-before.ensures.here in
           let long = long_so_far c.args.now c.args.reports.now.entries c.args.entries.now old c.loop-place.next.clusters.items c.loop-place.place c.loop-place-test.true c.loop-place.invariant.clusters in
-          let at : c.first_not_before-from.result ≡ length c.loop-place.next.clusters.items = unmoved c.first_not_before-from.result c.loop-place.place both.1 ∙ sym long in
+          let at : c.find_cluster-before.result.place ≡ length c.loop-place.next.clusters.items = unmoved c.find_cluster-before.result.place c.loop-place.place both.1 ∙ sym long in
           (subst (λ (n : ℕ). n < length old) at stood.0, sym stood.1 ∙ ap (λ (n : ℕ). get_or old n next) at));
+      quiet = quiet_more c.loop-place.next.clusters.items c.push.new.self.clusters.items c.loop-place.next.timers.items c.push.new.self.timers.items next _ c.loop-place.invariant.quiet
+          c.in_ok-push.ensures.clusters c.in_ok-push.ensures.timers refl;
     }

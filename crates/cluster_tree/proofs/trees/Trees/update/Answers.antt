@@ -4,6 +4,7 @@ use Rattle.xds_config.specs.declared.config.Config.{Config}
 use Rattle.xds_config.specs.declared.config.ClusterEntry.{ClusterEntry}
 use Rattle.cluster_tree.specs.StandingTrees.{Forest, ChangesAt, clusters_after}
 use Rattle.cluster_tree.specs.ClusterUsers.{AreIndexed, OthersStay}
+use Rattle.cluster_tree.proofs.ClusterLemmas.{all_follow}
 use Rattle.cluster_tree.proofs.ForestLemmas.{indexed_after, others_stay, updated_with, views_pickable}
 use Rattle.cluster_tree.proofs.trees.Trees.update.Goals as goal
 
@@ -14,14 +15,20 @@ clusters_after-requires-clause-others c =
     let long : length c.in_ok-readers.readers.items ≡ length c.self.inside.clusters.items = grind (arith, common_steps) in
     subst (λ (ms : List Bool). OthersStay c.args.self.now.now c.args.now c.args.reports.now.entries ms c.args.self.now.clusters) (sym c.deref.ensures.value)
     (subst (λ (f : Forest). OthersStay f.now c.args.now c.args.reports.now.entries c.in_ok-readers.readers.items f.clusters) c.self.view_is
-    (others_stay c.self.inside.users c.args.changed.now c.in_ok-readers.readers.items c.self.inside.time c.args.now asked.0 c.args.reports.now.entries c.self.inside.clusters.items asked.1.0 c.self.invariant c.in_ok-readers.ensures.marked long asked.1.1 asked.2))
+    (others_stay c.self.inside.users c.args.changed.now c.in_ok-readers.readers.items c.self.inside.time c.args.now asked.0 c.args.reports.now.entries c.self.inside.clusters.items asked.1.0 c.self.invariant.indexed c.in_ok-readers.ensures.marked long asked.1.1 asked.2))
+
+pub follow_users-requires-clause-follow : goal.follow_users-requires-clause-follow
+follow_users-requires-clause-follow c = all_follow _ _ _ _ _ c.in_ok-next.ensures.clusters
 
 pub invariant_of-self-2 : goal.invariant_of-self-2
 invariant_of-self-2 c =
     let is : c.in_ok-next.next.clusters.items ≡ clusters_after c.args.now c.args.reports.now.entries c.args.config.now.clusters c.self.inside.clusters.items =
     c.in_ok-next.ensures.clusters ∙ (ap (λ (es : List ClusterEntry). clusters_after c.args.now c.args.reports.now.entries es c.args.self.now.clusters) (c.as_slice-entries.ensures ∙ ap (λ (x : Config). x.clusters) c.get.ensures) ∙
     ap (λ (f : Forest). clusters_after c.args.now c.args.reports.now.entries c.args.config.now.clusters f.clusters) (sym c.self.view_is)) in
-    indexed_after c.args.now c.args.reports.now.entries c.args.config.now.clusters c.self.inside.users c.follow_users.new.users c.self.inside.clusters.items c.in_ok-next.next.clusters.items c.requires.lawful.clusters c.requires.lawful.rising c.self.invariant is c.in_ok-follow_users.ensures
+    record {
+      indexed = indexed_after c.args.now c.args.reports.now.entries c.args.config.now.clusters c.self.inside.users c.follow_users.new.users c.self.inside.clusters.items c.in_ok-next.next.clusters.items c.requires.lawful.clusters c.requires.lawful.rising c.self.invariant.indexed is c.in_ok-follow_users.ensures;
+      quiet = c.in_ok-next.ensures.quiet;
+    }
 
 pub returns-clause-pickable : goal.returns-clause-pickable
 returns-clause-pickable c =
@@ -29,7 +36,7 @@ returns-clause-pickable c =
     c.in_ok-next.ensures.clusters ∙ (ap (λ (es : List ClusterEntry). clusters_after c.args.now c.args.reports.now.entries es c.args.self.now.clusters) (c.as_slice-entries.ensures ∙ ap (λ (x : Config). x.clusters) c.get.ensures) ∙
     ap (λ (f : Forest). clusters_after c.args.now c.args.reports.now.entries c.args.config.now.clusters f.clusters) (sym c.self.view_is)) in
     let indexed : AreIndexed c.follow_users.new.users c.in_ok-next.next.clusters.items =
-    indexed_after c.args.now c.args.reports.now.entries c.args.config.now.clusters c.self.inside.users c.follow_users.new.users c.self.inside.clusters.items c.in_ok-next.next.clusters.items c.requires.lawful.clusters c.requires.lawful.rising c.self.invariant is c.in_ok-follow_users.ensures in
+    indexed_after c.args.now c.args.reports.now.entries c.args.config.now.clusters c.self.inside.users c.follow_users.new.users c.self.inside.clusters.items c.in_ok-next.next.clusters.items c.requires.lawful.clusters c.requires.lawful.rising c.self.invariant.indexed is c.in_ok-follow_users.ensures in
     rw (c.in_ok-views.ensures, c.deref-2.ensures.value)
     (views_pickable c.follow_users.new.users c.args.now c.args.reports.now.entries c.in_ok-next.next.clusters.items c.self.inside.clusters.items indexed
     (updated_with c.args.now c.args.reports.now.entries c.args.config.now.clusters c.self.inside.clusters.items c.in_ok-next.next.clusters.items is))

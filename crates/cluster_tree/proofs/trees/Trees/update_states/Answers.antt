@@ -11,33 +11,42 @@ step_clusters-requires-clause-others c =
     subst (λ (f : Forest). ChangesAt c.args.changed.now c.args.reports.now.entries f) (sym c.self.view_is) c.requires in
     let long : length c.in_ok-marks.marks.items ≡ length c.self.inside.clusters.items = grind (arith, common_steps) in
     rw (c.deref.ensures.value)
-    (others_stay c.self.inside.users c.args.changed.now c.in_ok-marks.marks.items c.self.inside.time c.args.now asked.0 c.args.reports.now.entries c.self.inside.clusters.items asked.1.0 c.self.invariant c.in_ok-marks.ensures.marked long asked.1.1 asked.2)
+    (others_stay c.self.inside.users c.args.changed.now c.in_ok-marks.marks.items c.self.inside.time c.args.now asked.0 c.args.reports.now.entries c.self.inside.clusters.items asked.1.0 c.self.invariant.indexed c.in_ok-marks.ensures.marked long asked.1.1 asked.2)
 
 pub invariant_of-self : goal.invariant_of-self
-invariant_of-self c = indexed_stepped c.self.inside.users c.args.now c.args.reports.now.entries c.self.inside.clusters.items c.step_clusters.new.clusters.items c.self.invariant c.in_err-changed.ensures.each
+invariant_of-self c = record {
+  indexed = indexed_stepped c.self.inside.users c.args.now c.args.reports.now.entries c.self.inside.clusters.items c.step_clusters.new.clusters.items c.self.invariant.indexed c.in_err-changed.ensures.each;
+  quiet = c.in_err-changed.ensures.quiet;
+}
 
 pub invariant_of-self-2 : goal.invariant_of-self-2
-invariant_of-self-2 c = indexed_stepped c.self.inside.users c.args.now c.args.reports.now.entries c.self.inside.clusters.items c.step_clusters.new.clusters.items c.self.invariant c.in_ok-changed.ensures.each
+invariant_of-self-2 c = record {
+  indexed = indexed_stepped c.self.inside.users c.args.now c.args.reports.now.entries c.self.inside.clusters.items c.step_clusters.new.clusters.items c.self.invariant.indexed c.in_ok-changed.ensures.each;
+  quiet = c.in_ok-changed.ensures.quiet;
+}
 
 pub returns-clause-step : goal.returns-clause-step
 returns-clause-step c =
     let make : List Cluster → Forest = λ cs. record { now = c.args.now; clusters = cs } in
-    rw (← c.self.view_is) (ap make (c.in_ok-changed.ensures.all ∙ steps_are c.args.now c.args.reports.now.entries c.self.inside.clusters.items c.self.invariant.rising))
+    rw (← c.self.view_is) (ap make (c.in_ok-changed.ensures.all ∙ steps_are c.args.now c.args.reports.now.entries c.self.inside.clusters.items c.self.invariant.indexed.rising))
 
 pub returns-clause-updated : goal.returns-clause-updated
 returns-clause-updated c = (
   c.self.inside.clusters.items,
   updated_with c.args.now c.args.reports.now.entries (entries_of c.self.inside.clusters.items) c.self.inside.clusters.items c.step_clusters.new.clusters.items
-      (c.in_ok-changed.ensures.all ∙ steps_are c.args.now c.args.reports.now.entries c.self.inside.clusters.items c.self.invariant.rising),
+      (c.in_ok-changed.ensures.all ∙ steps_are c.args.now c.args.reports.now.entries c.self.inside.clusters.items c.self.invariant.indexed.rising),
 )
 
 pub invariant_of-self-in_err-views : goal.invariant_of-self-in_err-views
-invariant_of-self-in_err-views c = indexed_stepped c.self.inside.users c.args.now c.args.reports.now.entries c.self.inside.clusters.items c.step_clusters.new.clusters.items c.self.invariant c.in_ok-changed.ensures.each
+invariant_of-self-in_err-views c = record {
+  indexed = indexed_stepped c.self.inside.users c.args.now c.args.reports.now.entries c.self.inside.clusters.items c.step_clusters.new.clusters.items c.self.invariant.indexed c.in_ok-changed.ensures.each;
+  quiet = c.in_ok-changed.ensures.quiet;
+}
 
 pub returns-clause-pickable : goal.returns-clause-pickable
 returns-clause-pickable c =
     rw (c.in_ok-views.ensures, c.deref-2.ensures.value)
     (views_pickable c.self.inside.users c.args.now c.args.reports.now.entries c.step_clusters.new.clusters.items c.self.inside.clusters.items
-    (indexed_stepped c.self.inside.users c.args.now c.args.reports.now.entries c.self.inside.clusters.items c.step_clusters.new.clusters.items c.self.invariant c.in_ok-changed.ensures.each)
+    (indexed_stepped c.self.inside.users c.args.now c.args.reports.now.entries c.self.inside.clusters.items c.step_clusters.new.clusters.items c.self.invariant.indexed c.in_ok-changed.ensures.each)
     (updated_with c.args.now c.args.reports.now.entries (entries_of c.self.inside.clusters.items) c.self.inside.clusters.items c.step_clusters.new.clusters.items
-    (c.in_ok-changed.ensures.all ∙ steps_are c.args.now c.args.reports.now.entries c.self.inside.clusters.items c.self.invariant.rising)))
+    (c.in_ok-changed.ensures.all ∙ steps_are c.args.now c.args.reports.now.entries c.self.inside.clusters.items c.self.invariant.indexed.rising)))

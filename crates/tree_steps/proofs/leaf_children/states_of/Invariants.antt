@@ -1,7 +1,0 @@
-use Rattle.std.proofs.Common.{◌≡◌, map, take}
-use Rattle.tree_steps.specs.Reports.{child_in}
-use Rattle.tree_steps.specs.Lent.{all_lent}
-use Rattle.tree_steps.proofs.leaf_children.states_of.Given as goal
-
-abbrev pub invariant-loop-child : goal.invariant-loop-child
-invariant-loop-child l = l.states.items ≡ map (child_in l.reports.entries) (all_lent (take l.child-index l.children))
