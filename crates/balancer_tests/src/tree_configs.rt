@@ -5,7 +5,7 @@ ghost use Rattle.xds_config.specs.Configs.{AreLawfulLeaves, IsLawfulConfig};
 use std::alloc::Global;
 use std::test::Fail;
 use xc_base::{List, Reason, Shared, Text};
-use xds_config::{ClusterEntry, Config, Leaf, Leaves};
+use xds_config::{ClusterEntry, Clusters, Config, Leaf, Leaves};
 
 fn leaves(alloc: Global) -> Result<Leaves, Fail>
     ensures { IfOk result AreLawfulLeaves }
@@ -35,7 +35,7 @@ pub fn config(alloc: Global) -> Result<Shared<Config>, Fail>
     clusters.push(Shared::new(alloc, entry)?)?;
     let config = Config {
         front: Err(Reason::Absent),
-        clusters,
+        clusters: Clusters::from_list(clusters),
     };
     Ok(Shared::new(alloc, config)?)
 }

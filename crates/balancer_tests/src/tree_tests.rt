@@ -8,8 +8,8 @@ use xc_base::{Reason, State, Time, address};
 
 /// Whether picks of the one cluster fail since its endpoints aren't there.
 fn is_absent(updated: &UpdatedViews) -> bool {
-    match updated.views.as_slice() {
-        [Ok(view)] => matches!(view.get().picker.body, PickBody::Fail(Reason::Absent)),
+    match updated.views.get(0) {
+        Some(Ok(view)) => matches!(view.get().picker.body, PickBody::Fail(Reason::Absent)),
         _ => false,
     }
 }

@@ -18,12 +18,13 @@ ghost use Rattle.book_trees.specs.ReportedLaws.{ShowsWhatStands};
 ghost use Rattle.book_trees.specs.TreesKept.{AreTreesAt, IsPageOf, cluster_names, clusters_of, reported_in};
 ghost use Rattle.book_driver.specs.ShownTrees.{AreConfiguredWith, AreSameBut, AreSeen, IsNews, IsSeen, IsShownBy, published_by, stands_with};
 
+use block_list::BlockList;
 use book_trees::ReportedTrees;
 use book_trees::due_numbers::{differs, due_number};
 use call_journal::DriverEvent;
 use cluster_tree::FollowedViews;
 use tree_steps::TreeView;
-use xc_base::{List, Memory, Reason, Same, Shared};
+use xc_base::{Memory, Reason, Same, Shared};
 use xds_config::{ClusterEntry, Config};
 
 /// The trees, and the configuration whose trees they are.
@@ -39,7 +40,7 @@ pub struct ConfiguredTrees {
 #[derive(Drop)]
 pub struct Seen {
     /// What is seen of each cluster, or the reason why it has no trees.
-    pub views: List<Result<Shared<TreeView>, Reason>>,
+    pub views: BlockList<Result<Shared<TreeView>, Reason>>,
     /// Whether the configuration or a view differs from before.
     pub differs: bool,
     /// For each cluster, whether it may be another one than stood at its place before, or whether something else may be seen
@@ -57,7 +58,7 @@ pub struct Published {
     /// The configuration.
     pub config: Shared<Config>,
     /// What is seen of each cluster, or the reason why it has no trees.
-    pub views: List<Result<Shared<TreeView>, Reason>>,
+    pub views: BlockList<Result<Shared<TreeView>, Reason>>,
     /// For each cluster, whether it may be another one than stood at its place before, or whether something else may be seen
     /// of it or served by it.
     pub marks: Vec<bool>,

@@ -1,5 +1,5 @@
 -- What a driver's event says, and the payload that is prepared for it.
-use Rattle.std.specs.Prelude.{◌≡◌, ℕ, List, [], true, Option, Some, None, IfSome, option_map}
+use Rattle.std.specs.Prelude.{◌≡◌, ◌<◌, ◌^◌, ℕ, List, [], length, true, Option, Some, None, IfSome, option_map}
 use Rattle.std.specs.List.{filter_map}
 use Rattle.proto_discovery.specs.declared.response.Response.{Response}
 use Rattle.resource_check.specs.declared.delivery.Prepared.{Prepared}
@@ -29,6 +29,11 @@ payload_in _ = None
 pub record IsPreparedFor (event : DriverEvent) (prepared : Option Prepared) : Type 0 where
   pub same : option_map (λ p. p.payload) prepared ≡ payload_in event
   pub checked : IfSome prepared IsPrepared
+
+-- the payload of a response is short enough to be read
+abbrev pub IsShortIn : DriverEvent → Type 0
+IsShortIn (DriverEvent.Response a payload) = length payload < 2 ^ 32
+IsShortIn _ = Unit {0}
 
 -- ---- a response that is answered
 

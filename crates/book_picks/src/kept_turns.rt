@@ -35,7 +35,7 @@ pub struct Turns {
 fn view_at(snapshot: &Snapshot, place: u32) -> Option<&Result<Shared<TreeView>, Reason>>
     ensures { option_copied result ≡ slice_get snapshot.now.trees place }
 {
-    snapshot.trees.as_slice().get(place as usize)
+    snapshot.trees.get(place as usize)
 }
 
 impl Turns {

@@ -81,11 +81,10 @@ impl Turns {
         ensures { OnOk result (AreRenewed trees.entry.now snapshot.now marks.now self.old self.new) }
     {
         let entries = snapshot.config.get().clusters.as_slice();
-        let views = snapshot.trees.as_slice();
         for place in 0..entries.len() {
             if marks[place] {
                 let name = &entries[place].get().name;
-                self.renew_row(trees, place as u32, name, &views[place])?;
+                self.renew_row(trees, place as u32, name, snapshot.trees.at(place))?;
             }
         }
         Ok(())

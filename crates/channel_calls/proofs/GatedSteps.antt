@@ -23,7 +23,8 @@ use Rattle.planned_calls.proofs.RoomProofs.{next_has_room}
 use Rattle.xds_book.specs.declared.book_faults.BookFault.{BookFault}
 use Rattle.xds_book.specs.BookEntries.{IsFull, IsKnownTo}
 use Rattle.xds_book.specs.BookViews.{BookView, LaneView}
-use Rattle.channel_calls.specs.ChannelPlans.{HasChannelPlan, HasListed, IsShortIn}
+use Rattle.book_hearing.specs.HeardEvents.{IsShortIn}
+use Rattle.channel_calls.specs.ChannelPlans.{HasChannelPlan, HasListed}
 use Rattle.channel_calls.specs.declared.channel_faults.First.{First}
 use Rattle.channel_calls.specs.LockedBooks.{IsFree, IsOpenTo, LockedView}
 

@@ -1,21 +1,16 @@
 -- The plan of a channel, and what is listed next for a lane (this project's own).
-use Rattle.std.specs.Prelude.{◌≡◌, ◌<◌, ◌≤◌, ◌^◌, ℕ, List, length, Option, Some, None}
+use Rattle.std.specs.Prelude.{◌≡◌, ◌<◌, ◌≤◌, ℕ, List, length, Option, Some, None}
 use Rattle.xc_base.specs.declared.call.Call.{Call}
-use Rattle.call_journal.specs.declared.event.DriverEvent.{DriverEvent}
 use Rattle.call_journal.specs.declared.plan.Count.{Count}
 use Rattle.call_journal.specs.declared.plan.Listed.{Listed}
 use Rattle.call_journal.specs.declared.plan.ListedEvent.{ListedEvent}
 use Rattle.book_progress.specs.PlayedPlans.{IsListed}
+use Rattle.book_hearing.specs.HeardEvents.{IsShortIn}
 use Rattle.planned_calls.specs.PlannedCalls.{StartsOnce, plan_entries}
 use Rattle.xds_book.specs.BookEntries.{IsKnownTo}
 use Rattle.xds_book.specs.BookViews.{LaneView}
 
 -- ---- the plan
-
--- the payload of a response is short enough to be read
-abbrev pub IsShortIn : DriverEvent → Type 0
-IsShortIn (DriverEvent.Response a payload) = length payload < 2 ^ 32
-IsShortIn _ = Unit {0}
 
 -- where an event is one of the driver, a Book with so many authorities takes it
 abbrev pub IsDrivable : ℕ → ListedEvent → Type 0

@@ -1,7 +1,6 @@
 //! Responses that are read and checked before any lock is taken.
 ghost use Rattle.std.specs.Prelude.{◌≡◌, ◌++◌, IfOk};
-ghost use Rattle.book_hearing.specs.HeardEvents.{IsPreparedFor, texts_of};
-ghost use Rattle.channel_calls.specs.ChannelPlans.{IsShortIn};
+ghost use Rattle.book_hearing.specs.HeardEvents.{IsPreparedFor, IsShortIn, texts_of};
 
 use call_journal::DriverEvent;
 use header_match::Patterns;

@@ -16,7 +16,7 @@ use proto_route::{RawRoutes, RawVirtualHost};
 use std::alloc::Global;
 use std::collections::BTreeSet;
 use xc_base::{List, Memory, Reason, Text};
-use xds_config::{Action, Host, Route, RouteValue};
+use xds_config::{Action, Host, Route, RouteValue, Routes};
 
 /// A virtual host names at most so many different clusters.
 const MOST_CLUSTERS: usize = 1024;
@@ -121,7 +121,7 @@ fn copies_of(alloc: Global, texts: &[Text]) -> Result<List<Text>, Memory>
 }
 
 /// A virtual host with these routes.
-fn host_with(alloc: Global, raw: &RawVirtualHost, routes: List<Route>) -> Result<Host, Memory>
+fn host_with(alloc: Global, raw: &RawVirtualHost, routes: Routes) -> Result<Host, Memory>
     ensures { IfOk result (λ host. host ≡ host_with raw.now routes) }
 {
     let name = raw.name.clone()?;

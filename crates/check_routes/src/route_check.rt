@@ -19,7 +19,7 @@ use proto_route::{
 };
 use std::alloc::Global;
 use xc_base::{List, Memory, Reason, Text};
-use xds_config::{Action, PathTest, Route, Weighted};
+use xds_config::{Action, PathTest, Route, Routes, Weighted};
 
 // ---- routes that are left out, unchecked
 
@@ -252,7 +252,7 @@ pub fn routes<P: Patterns>(
     asked: &mut Asked,
     patterns: &mut P,
     raws: &[RawRoute],
-) -> Result<List<Route>, Fault>
+) -> Result<Routes, Fault>
     ensures value { TellsOver asked.new result (λ refuses. routes_from refuses 0 raws.now) }
     ensures asked { AsksUntil asked.old asked.new (P.refused patterns.old) (P.refused patterns.new) (ending result) }
     ensures lawful { IfOk result AreLawfulRoutes }
@@ -263,5 +263,5 @@ pub fn routes<P: Patterns>(
         let kept = kept_route(alloc, asked, patterns, place as u32, &raws[place])?;
         add(&mut routes, kept)?;
     }
-    Ok(routes)
+    Ok(Routes::from_list(routes))
 }

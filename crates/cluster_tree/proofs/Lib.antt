@@ -4,3 +4,4 @@ pub mod ClusterLemmas
 pub mod ChangeLemmas
 pub mod MergeLemmas
 pub mod TimerLemmas
+pub mod ViewLemmas

@@ -9,6 +9,7 @@ use Rattle.cluster_tree.specs.declared.cluster_trees.Cluster.{Cluster}
 use Rattle.cluster_tree.specs.declared.cluster_trees.Standing.{Standing}
 use Rattle.tree_steps.specs.Quiet.{stand_at}
 use Rattle.cluster_tree.specs.StandingTrees.{stands_in}
+use Rattle.tree_steps.specs.declared.tree_view.TreeView.{TreeView}
 use Rattle.tree_steps.specs.Users.{UserList}
 use Rattle.cluster_tree.specs.ClusterTimers.{quiet_in, AreQuietBut, AreKept}
 use Rattle.cluster_tree.proofs.MergeLemmas.{none_indexed}
@@ -71,8 +72,9 @@ none_quiet marks clusters are is = record {
   each = λ place d lt off. absurd (omega (arith, lt, ap length is));
 }
 
-pub none_kept : (users : UserList) (marks : List Bool) (clusters : List Cluster) → marks ≡ [] → clusters ≡ [] → AreKept users marks clusters
-none_kept users marks clusters are is = record {
+pub none_kept : (users : UserList) (marks : List Bool) (views : List (Result TreeView Reason)) (clusters : List Cluster) → marks ≡ [] → clusters ≡ [] → AreKept users marks views clusters
+none_kept users marks views clusters are is = record {
   indexed = none_indexed users clusters is;
   quiet = none_quiet marks clusters are is;
+  seen = λ place d lt. absurd (omega (arith, lt, ap length is));
 }

@@ -2,3 +2,4 @@ pub mod StandingTrees
 pub mod ClusterUsers
 pub mod ViewChanges
 pub mod ClusterTimers
+pub mod KeptViews

@@ -4,6 +4,7 @@
 pub(crate) mod cluster_merge;
 pub(crate) mod cluster_timers;
 pub(crate) mod cluster_trees;
+pub(crate) mod cluster_views;
 pub mod snapshot;
 pub mod tree_laws;
 pub(crate) mod tree_switch;

@@ -1,6 +1,7 @@
 //! What is published.
+use block_list::BlockList;
 use tree_steps::TreeView;
-use xc_base::{List, Reason, Shared};
+use xc_base::{Reason, Shared};
 use xds_config::Config;
 
 /// What is published at once: a whole configuration, and the trees of its clusters in their order (gRFC
@@ -12,5 +13,5 @@ pub struct Snapshot {
     /// The configuration.
     pub config: Shared<Config>,
     /// What is seen of each cluster's trees, or the reason why the cluster has none.
-    pub trees: List<Result<Shared<TreeView>, Reason>>,
+    pub trees: BlockList<Result<Shared<TreeView>, Reason>>,
 }

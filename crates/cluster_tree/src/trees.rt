@@ -11,15 +11,16 @@ use crate::cluster_merge::{
     Marks, NextClusters, Times, Turn, find_cluster, is_due, is_marked, next_cluster,
 };
 use crate::cluster_timers::has_timers;
-use crate::cluster_trees::{
-    Cluster, NextCluster, add_users, cluster_after, served_localities, view_of,
-};
+use crate::cluster_trees::{Cluster, NextCluster, add_users, cluster_after, served_localities};
+use crate::cluster_views::views_after;
+use block_list::BlockList;
 use std::alloc::Global;
 use std::collections::BTreeMap;
 use std::marker::Model;
+use std::mem;
 use tree_steps::users::marks_of;
 use tree_steps::{TreeView, Users};
-use xc_base::{Address, List, Memory, Reason, Shared, State, Time};
+use xc_base::{Address, Memory, Reason, Shared, State, Time};
 use xds_config::{ClusterEntry, Config, Locality};
 
 /// What is seen of the clusters of a configuration after an update, in the configuration's order.
@@ -27,7 +28,7 @@ use xds_config::{ClusterEntry, Config, Locality};
 pub struct UpdatedViews {
     /// The view of each cluster's trees, or the reason why the cluster has none. A view that didn't
     /// change is shared.
-    pub views: List<Result<Shared<TreeView>, Reason>>,
+    pub views: BlockList<Result<Shared<TreeView>, Reason>>,
     /// For each cluster, whether what is seen of it differs from what the update before gave of it.
     pub changed: Vec<bool>,
 }
@@ -52,6 +53,8 @@ pub struct Trees {
     /// For each cluster, whether a timer of its trees may run. It stands here so that one without a timer is passed
     /// without a look at its trees.
     timers: Vec<bool>,
+    /// What was seen of the clusters at the last update. An update shares the blocks of it in which nothing changed.
+    seen: BlockList<Result<Shared<TreeView>, Reason>>,
     users: Users,
 }
 
@@ -63,21 +66,7 @@ impl Model for Trees {
 
     ghost view = { λ t. record { now = t.time; clusters = t.clusters.items } };
 
-    ghost invariant = { λ t. AreKept t.users t.timers.items t.clusters.items };
-}
-
-/// What is seen of the clusters.
-fn views_of(
-    alloc: Global,
-    clusters: &[Cluster],
-) -> Result<List<Result<Shared<TreeView>, Reason>>, Memory>
-    ensures { IfOk result (λ views. views ≡ views_of clusters.now) }
-{
-    let mut views = List::from_vec(Vec::with_capacity(alloc, clusters.len())?);
-    for cluster in clusters {
-        views.push(view_of(cluster)?)?;
-    }
-    Ok(views)
+    ghost invariant = { λ t. AreKept t.users t.timers.items t.seen t.clusters.items };
 }
 
 /// Which clusters read which addresses.
@@ -224,6 +213,7 @@ impl Trees {
             time: Time(0),
             clusters: Vec::new(alloc),
             timers: Vec::new(alloc),
+            seen: BlockList::new(alloc),
             users: Users::new(alloc),
         }
     }
@@ -299,13 +289,16 @@ impl Trees {
             entries: others,
         };
         let next = self.clusters_after(reports, now, entries, marks)?;
-        let views = views_of(self.alloc, &next.clusters)?;
+        let before = mem::replace(&mut self.seen, BlockList::new(self.alloc));
+        let views = views_after(self.alloc, &before, &next.clusters, &next.anew)?;
+        let seen = views.share(self.alloc)?;
         self.time = now;
         self.clusters = Vec::new(self.alloc);
         self.timers = Vec::new(self.alloc);
         follow_users(self.alloc, &mut self.users, &next)?;
         self.clusters = next.clusters;
         self.timers = next.timers;
+        self.seen = seen;
         Ok(FollowedViews {
             seen: UpdatedViews {
                 views,
@@ -336,6 +329,7 @@ impl Trees {
             last: self.time,
             this: now,
         };
+        let before = mem::replace(&mut self.seen, BlockList::new(self.alloc));
         let changed = step_clusters(
             self.alloc,
             reports,
@@ -345,7 +339,8 @@ impl Trees {
             &mut self.timers,
         )?;
         self.time = now;
-        let views = views_of(self.alloc, &self.clusters)?;
+        let views = views_after(self.alloc, &before, &self.clusters, &changed)?;
+        self.seen = views.share(self.alloc)?;
         Ok(UpdatedViews { views, changed })
     }
 

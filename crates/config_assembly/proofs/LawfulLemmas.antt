@@ -12,6 +12,7 @@ use Rattle.std.proofs.lemmas.Map.Keys.{sorted_tail}
 use Rattle.xc_base.specs.declared.names.Key.{Key}
 use Rattle.xc_base.specs.declared.reason.Reason.{Reason}
 use Rattle.xds_config.specs.Configs.{AreLawfulLeaves, IsLawfulConfig, IsLawfulFront, IsNameBefore}
+use Rattle.xds_config.specs.SearchedLists.{AreByName}
 use Rattle.xds_config.specs.Endpoints.{IsLawfulEndpoints}
 use Rattle.xds_config.specs.declared.config.Front.{Front}
 use Rattle.xds_config.specs.declared.config.Leaf.{Leaf}
@@ -40,12 +41,18 @@ lawful_of key Known.Absent lawful = tt
 
 -- ---- names in order
 
-pub entries_rise : (r : Resources) (names : List Name) → IsStrictlySortedBy name_cmp names → AllPairs (λ a b. IsNameBefore a.name b.name) (map (cluster_entry r) names)
+entries_rise : (r : Resources) (names : List Name) → IsStrictlySortedBy name_cmp names → AllPairs (λ a b. IsNameBefore a.name b.name) (map (cluster_entry r) names)
 entries_rise r [] rising = λ i j d less within. absurd (omega (arith, within))
 entries_rise r (name ∷ names) rising =
     AllPairs-cons (λ a b. IsNameBefore a.name b.name) (cluster_entry r name) (map (cluster_entry r) names)
     (All-map (λ c. IsNameBefore name c.name) (cluster_entry r) names (All-after_first name_cmp name names rising))
     (entries_rise r names (sorted_tail name_cmp name names rising))
+
+pub entries_by_name : (r : Resources) (names : List Name) (entries : List ClusterEntry) → IsStrictlySortedBy name_cmp names → entries ≡ map (cluster_entry r) names → length names < 2 ^ 31 → AreByName entries
+entries_by_name r names entries rising is few = record {
+  rising = subst (AllPairs (λ a b. IsNameBefore a.name b.name)) (sym is) (entries_rise r names rising);
+  few = subst (λ n. n < 2 ^ 31) (sym (ap length is ∙ length-map names (cluster_entry r))) few;
+}
 
 -- ---- leaves
 
@@ -123,11 +130,10 @@ are_lawful r aggregate names leaves is some once endpoints few = record {
   few = subst (λ n. n < 2 ^ 31) (sym (ap length is ∙ length-map names (leaf_of r))) few;
 }
 
-pub is_lawful : (r : Resources) (front : Result Front Reason) (names : List Name) (entries : List ClusterEntry) → IfOk front IsLawfulFront → IsStrictlySortedBy name_cmp names → entries ≡ map (cluster_entry r) names → All (λ entry. IfOk entry.state AreLawfulLeaves) entries → length names < 2 ^ 31
-    → IsLawfulConfig (record { front = front; clusters = entries })
-is_lawful r front names entries lawful rising is leaves few = record {
+pub is_lawful : (front : Result Front Reason) (entries : List ClusterEntry) → IfOk front IsLawfulFront → All (λ entry. IfOk entry.state AreLawfulLeaves) entries → AreByName entries → IsLawfulConfig (record { front = front; clusters = entries })
+is_lawful front entries lawful leaves ordered = record {
   front = lawful;
   clusters = leaves;
-  rising = subst (AllPairs (λ a b. IsNameBefore a.name b.name)) (sym is) (entries_rise r names rising);
-  few = subst (λ n. n < 2 ^ 31) (sym (ap length is ∙ length-map names (cluster_entry r))) few;
+  rising = ordered.rising;
+  few = ordered.few;
 }

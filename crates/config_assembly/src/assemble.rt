@@ -21,7 +21,7 @@ use std::alloc::AllocError;
 use std::sync::ledger::Ledger;
 use xc_base::{Kind, List, Memory, Reason, Shared, Steps, Text};
 use xds_cache::Fate;
-use xds_config::{ClusterEntry, Config, EndpointValue, Front, Leaf, Leaves, Value};
+use xds_config::{ClusterEntry, Clusters, Config, EndpointValue, Front, Leaf, Leaves, Value};
 
 /// No list has so many members within the limits of a session.
 const TOO_MANY: usize = 1 << 31;
@@ -188,6 +188,7 @@ pub fn config<L: Ledger>(
     if names.len() >= TOO_MANY {
         return Err(AllocError);
     }
-    let clusters = entries(sight, names, table, steps)?;
+    let entries = entries(sight, names, table, steps)?;
+    let clusters = Clusters::from_list(entries);
     Ok(Shared::new(sight.alloc, Config { front, clusters })?)
 }

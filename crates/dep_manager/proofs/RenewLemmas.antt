@@ -1,5 +1,5 @@
 -- What is kept once endpoints changed.
-use Rattle.std.proofs.Common.{◌≡◌, ℕ, suc, ◌<◌, arith, Bool, true, false, ◌||◌, Option, Some, None, Result, Ok, Err, List, [], ◌∷◌, map, length, get_or, refl, sym, ap, ap₂, ◌∙◌, subst, is_some}
+use Rattle.std.proofs.Common.{◌≡◌, ℕ, suc, ◌<◌, arith, Bool, true, false, ◌||◌, Option, Some, None, Result, Ok, Err, List, [], ◌∷◌, map, take, length, get_or, refl, sym, ap, ap₂, ◌∙◌, subst, is_some}
 use Rattle.std.specs.Prelude.{◌≢◌, ◌^◌, All, AllPairs, Contains, IfOk, IfSome, if◌then◌else◌, option_and_then, option_map, unwrap_or}
 use Rattle.std.specs.List.{list_any}
 use Rattle.std.proofs.lemmas.Bool.{true≢false}
@@ -214,6 +214,19 @@ pairs_by f R xs ys same pairs i j d less within =
     subst (λ y. R y (f (get_or ys j d))) (of i (omega (arith, less, within)))
     (subst (λ y. R (f (get_or xs i d)) y) (of j within) (pairs i j d less (subst (λ n. j < n) longs within)))
 
+renewed_name : (entry : ClusterEntry) (state : Result Leaves Reason) (b : Bool) → (if b then record { name = entry.name; state = state } else entry).name ≡ entry.name
+renewed_name entry state true = refl
+renewed_name entry state false = refl
+
+-- entries that are renewed keep their names
+pub renewed_names : (told : Told) (entries : List ClusterEntry) (sources : List (List (Option Key))) →
+    map (λ c. c.name) (renewed_entries told entries sources) ≡ take (length (renewed_entries told entries sources)) (map (λ c. c.name) entries)
+renewed_names told [] [] = refl
+renewed_names told [] (keys ∷ sources) = refl
+renewed_names told (entry ∷ entries) [] = refl
+renewed_names told (entry ∷ entries) (keys ∷ sources) =
+    ap₂ (λ name names. name ∷ names) (renewed_name entry (renewed_state told entry.state keys) (list_any (is_told told) keys)) (renewed_names told entries sources)
+
 leaf_named : (leaf : Leaf) (state : Option State) → (leaf_with leaf state).name ≡ leaf.name
 leaf_named leaf None = refl
 leaf_named leaf (Some state) = refl
@@ -261,10 +274,6 @@ module _ (r : Resources) (told : Told) (news : AreLawfulNews told) where
   entry_lawful entry true lawful = entry_state entry.state lawful
   entry_lawful entry false lawful = lawful
 
-  entry_named : (entry : ClusterEntry) (b : Bool) → (if b then record { name = entry.name; state = renewed_state told entry.state (sources_of r entry.state) } else entry).name ≡ entry.name
-  entry_named entry true = refl
-  entry_named entry false = refl
-
   abbrev entry_keys : List ClusterEntry → List (List (Option Key))
   entry_keys entries = map (λ entry. sources_of r entry.state) entries
 
@@ -277,7 +286,7 @@ module _ (r : Resources) (told : Told) (news : AreLawfulNews told) where
 
   entries_named : (entries : List ClusterEntry) → map (λ c. c.name) (renewed_entries told entries (entry_keys entries)) ≡ map (λ c. c.name) entries
   entries_named [] = refl
-  entries_named (entry ∷ entries) = ap₂ (λ name names. name ∷ names) (entry_named entry (list_any (is_told told) (sources_of r entry.state))) (entries_named entries)
+  entries_named (entry ∷ entries) = ap₂ (λ name names. name ∷ names) (renewed_name entry (renewed_state told entry.state (sources_of r entry.state)) (list_any (is_told told) (sources_of r entry.state))) (entries_named entries)
 
   entries_long : (entries : List ClusterEntry) → length (renewed_entries told entries (entry_keys entries)) ≡ length entries
   entries_long entries = sym (length-map (renewed_entries told entries (entry_keys entries)) (λ c. c.name)) ∙ ap length (entries_named entries) ∙ length-map entries (λ c. c.name)

@@ -221,13 +221,9 @@ pub fn renewed_config(
         return Ok(Renewed { config, others });
     }
     let front = copy_front(&config.get().front)?;
-    let clusters = renewed_entries(
-        alloc,
-        news,
-        config.get().clusters.as_slice(),
-        sources.as_slice(),
-        &told,
-    )?;
+    let clusters = &config.get().clusters;
+    let entries = renewed_entries(alloc, news, clusters.as_slice(), sources.as_slice(), &told)?;
+    let clusters = clusters.renewed(entries);
     let config = Shared::new(alloc, Config { front, clusters })?;
     let others = joined_marks(alloc, &others, &told)?;
     Ok(Renewed { config, others })

@@ -13,7 +13,7 @@ use Rattle.xds_history.specs.Right.{Right}
 use Rattle.legal_history.specs.Legal.{Legal}
 use Rattle.book_progress.specs.PlayedPlans.{IsPlayed}
 use Rattle.listed_patterns.specs.ListedPatterns.{listed_in}
-use Rattle.turn_steps.specs.ListedEvents.{ListsFor}
+use Rattle.listed_events.specs.ListedEvents.{ListsFor}
 
 -- an entry that answers a response tells as refused the texts that these lines list for it
 abbrev pub RefusesAsListed : List ℕ → What → Type 0

@@ -1,11 +1,10 @@
 //! What a pick chose, found in the snapshot that it was made in.
-ghost use Rattle.std.specs.Prelude.{◌≡◌, ◌==◌, bytes_eq, find, option_copied, position};
+ghost use Rattle.std.specs.Prelude.{◌≡◌, ◌==◌, find, option_copied};
 ghost use Rattle.report_parts.specs.Callers.{address_of, category_of, parts_of, picker_in, picker_of_cluster, picker_of_tree};
 
 use cluster_tree::{Snapshot, TreeView};
 use weighted_lb::{Part, PickBody, Picker};
-use xc_base::{Address, Reason, Same, Shared, Text};
-use xds_config::ClusterEntry;
+use xc_base::{Address, Reason, Shared, Text};
 
 /// The picker of a cluster's trees, where it has some.
 fn picker_of_tree(tree: &Result<Shared<TreeView>, Reason>) -> Option<&Picker>
@@ -17,22 +16,13 @@ fn picker_of_tree(tree: &Result<Shared<TreeView>, Reason>) -> Option<&Picker>
     }
 }
 
-/// The place of the cluster of this name.
-fn place_of(clusters: &[Shared<ClusterEntry>], name: &Text) -> Option<usize>
-    ensures { result ≡ position (λ c. bytes_eq c.name name.now) clusters.now }
-{
-    clusters
-        .iter()
-        .position(|cluster| cluster.get().name.same(name))
-}
-
 /// The picker of a cluster's trees.
 #[tactic(auto, unfolding(crate::specs::Callers::picker_of_cluster))]
 fn picker_of_cluster<'a>(snapshot: &'a Snapshot, cluster: &Text) -> Option<&'a Picker>
     ensures { option_copied result ≡ picker_of_cluster snapshot.now cluster.now }
 {
-    let place = place_of(snapshot.config.get().clusters.as_slice(), cluster)?;
-    let tree = snapshot.trees.as_slice().get(place)?;
+    let place = snapshot.config.get().clusters.find(cluster)?;
+    let tree = snapshot.trees.get(place as usize)?;
     picker_of_tree(tree)
 }
 

@@ -4,6 +4,7 @@ ghost use Rattle.report_parts.specs.Snapshots.{cluster_text, clusters_from, foun
 
 use crate::report_words::push_escaped;
 use crate::tree_report::push_tree;
+use block_list::BlockList;
 use cluster_tree::{Snapshot, TreeView};
 use std::fmt::Write;
 use xc_base::{Memory, Reason, Shared};
@@ -45,7 +46,7 @@ fn push_found_tree(
 
 /// The trees at a place.
 fn tree_at(
-    trees: &[Result<Shared<TreeView>, Reason>],
+    trees: &BlockList<Result<Shared<TreeView>, Reason>>,
     place: usize,
 ) -> Option<&Result<Shared<TreeView>, Reason>>
     ensures { option_copied result ≡ slice_get trees.now place }
@@ -73,7 +74,7 @@ fn push_cluster(
 fn push_clusters(
     out: &mut String,
     clusters: &[Shared<ClusterEntry>],
-    trees: &[Result<Shared<TreeView>, Reason>],
+    trees: &BlockList<Result<Shared<TreeView>, Reason>>,
 ) -> Result<(), Memory>
     ensures { OnOk result (string_bytes out.new ≡ string_bytes out.old ++ clusters_from trees.now 0 clusters.now) }
 {
@@ -92,7 +93,7 @@ fn push_snapshot_line(out: &mut String, snapshot: &Snapshot) -> Result<(), Memor
     let config = snapshot.config.get();
     write!(out, "  snap {number} front=")?;
     push_front(out, &config.front)?;
-    push_clusters(out, config.clusters.as_slice(), snapshot.trees.as_slice())?;
+    push_clusters(out, config.clusters.as_slice(), &snapshot.trees)?;
     out.push_str("\n")
 }
 

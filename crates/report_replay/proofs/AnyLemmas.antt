@@ -14,9 +14,10 @@ use Rattle.turn_player.specs.TurnPlans.{SeatView}
 use Rattle.turn_player.specs.TableSeats.{AreLeft, AreSeated, HasNoLineLeft, IsTurnPlayed}
 use Rattle.xds_book.specs.BookEntries.{entry_of}
 use Rattle.xds_book.specs.BookViews.{BookView}
-use Rattle.report_replay.specs.ReplayedTurns.{HasNoneLeft, IsEndOfAny, IsNextAfter, IsNextOfAny, IsUnderWay, IsWrong, next_made}
-use Rattle.report_replay.specs.declared.replaying.Next.{Next}
-use Rattle.report_replay.specs.declared.replaying.Next.TheVariants as next
+use Rattle.replay_steps.specs.NextTurns.{IsNextAfter, IsWrong, next_made}
+use Rattle.report_replay.specs.ReplayedTurns.{HasNoneLeft, IsEndOfAny, IsNextOfAny, IsUnderWay}
+use Rattle.replay_steps.specs.declared.next_turns.Next.{Next}
+use Rattle.replay_steps.specs.declared.next_turns.Next.TheVariants as next
 use Rattle.report_replay.proofs.PlayLemmas.{Played, made_played}
 
 -- a turn that is played leaves all under way; behind the last sweep no line is left

@@ -21,7 +21,7 @@ use Rattle.book_progress.specs.ProgressKept.{most_entries}
 use Rattle.sweep_law.proofs.SweepProofs.{sweep_stands}
 use Rattle.report_turns.specs.declared.entry_turns.EntryTurn.{EntryTurn}
 use Rattle.report_turns.specs.declared.misplaced_turns.Misplaced.{Misplaced}
-use Rattle.turn_steps.specs.ListedEvents.{TellsOn}
+use Rattle.listed_events.specs.ListedEvents.{TellsOn}
 use Rattle.turn_steps.specs.declared.halts.Halt.{Halt}
 use Rattle.turn_steps.specs.declared.halts.Halt.TheVariants as halt
 use Rattle.turn_player.specs.TurnPlans.{SeatView}
@@ -31,9 +31,10 @@ use Rattle.xds_book.specs.BookKept.{HasActors}
 use Rattle.xds_book.specs.BookViews.{BookView}
 use Rattle.std.specs.Prelude.{IfOk}
 use Rattle.std.specs.declared.alloc.AllocError.{AllocError}
-use Rattle.report_replay.specs.ReplayedTurns.{HasCome, HasReplayed, HasSwept, IsAlong, IsBeyond, IsLegalReplay, IsNextAfter, IsNextOfReplay, IsReplayed, IsTurnIn, IsTurnOf, ReplayView, lines_left, next_made}
-use Rattle.report_replay.specs.declared.replaying.Next.{Next}
-use Rattle.report_replay.specs.declared.replaying.Next.TheVariants as next
+use Rattle.replay_steps.specs.NextTurns.{IsNextAfter, next_made}
+use Rattle.report_replay.specs.ReplayedTurns.{HasCome, HasReplayed, HasSwept, IsAlong, IsBeyond, IsLegalReplay, IsNextOfReplay, IsReplayed, IsTurnIn, IsTurnOf, ReplayView, lines_left}
+use Rattle.replay_steps.specs.declared.next_turns.Next.{Next}
+use Rattle.replay_steps.specs.declared.next_turns.Next.TheVariants as next
 use Rattle.report_replay.proofs.DueLemmas.{line_is_no_sweep, made_is, turn_is_due}
 use Rattle.report_replay.proofs.SweepLemmas.{seats_done, sweep_next}
 

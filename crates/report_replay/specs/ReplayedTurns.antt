@@ -1,6 +1,6 @@
 -- How far the turns of a report have been played on a Book, beside those of a legal history's report (this project's own).
 -- Histories have the newest entry first: of `later ++ past` the entries `later` come after those of `past`.
-use Rattle.std.specs.Prelude.{◌≡◌, ◌≢◌, ◌⊎◌, ℕ, ◌==◌, if◌then◌else◌, List, [], ◌∷◌, ◌++◌, All, length, drop, true, false, Option, None, Some, Result, Ok, Err, IsErr, IsOk}
+use Rattle.std.specs.Prelude.{◌≡◌, ◌≢◌, ◌⊎◌, ℕ, List, [], ◌∷◌, ◌++◌, All, length, drop, true, false, Option, None, Some}
 use Rattle.call_journal.specs.declared.entry.Entry.{Entry}
 use Rattle.call_journal.specs.declared.plan.Listed.{Listed}
 use Rattle.config_assembly.specs.Orders.{Name}
@@ -19,16 +19,12 @@ use Rattle.report_turns.specs.TurnLines.{goes_on}
 use Rattle.alike_law.specs.AlikeTexts.{Parting}
 use Rattle.turn_law.specs.TurnLaw.{IsTurn}
 use Rattle.report_turns.specs.declared.entry_turns.EntryTurn.{EntryTurn}
-use Rattle.std.specs.declared.alloc.AllocError.{AllocError}
-use Rattle.report_turns.specs.declared.misplaced_turns.Misplaced.{Misplaced}
-use Rattle.turn_steps.specs.declared.halts.Halt.{Halt}
-use Rattle.turn_steps.specs.declared.halts.Halt.TheVariants as halt
 use Rattle.report_compare.specs.declared.mistakes.Mistake.{Mistake}
 use Rattle.turn_player.specs.TurnPlans.{SeatView}
 use Rattle.turn_player.specs.TableSeats.{AreSeated, HasNoLineLeft}
 use Rattle.xds_book.specs.BookViews.{BookView}
-use Rattle.report_replay.specs.declared.replaying.Next.{Next}
-use Rattle.report_replay.specs.declared.replaying.Next.TheVariants as next
+use Rattle.replay_steps.specs.declared.next_turns.Next.{Next}
+use Rattle.replay_steps.specs.declared.next_turns.Next.TheVariants as next
 
 -- the plan of a session, the seats of its actors, and the lines of a report that are left
 pub record ReplayView : Type 0 where
@@ -128,17 +124,6 @@ IsNextOfReplay session history parting made told tells book replay next.Played =
 IsNextOfReplay session history parting made told tells book replay next.End = HasSwept history book replay.seats ⊎ IsBeyond session history parting book
 IsNextOfReplay session history parting made told tells book replay (next.Wrong mistake) = IsBeyond session history parting book
 
--- the last sweep, which is of line 0, is the last turn
-abbrev pub next_made : ℕ → Next
-next_made line = if line == 0 then next.End else next.Played
-
--- what comes of a turn of this line that was to be played
-abbrev pub IsNextAfter : ℕ → Result (Option Misplaced) Halt → Result Next AllocError → Type 0
-IsNextAfter line (Ok None) result = result ≡ Ok (next_made line)
-IsNextAfter line (Ok (Some why)) result = IsOk result
-IsNextAfter line (Err halt.Strange) result = IsOk result
-IsNextAfter line (Err halt.Memory) result = IsErr result
-
 -- ---- all turns
 
 -- no mistake was found, and all is played but the last sweep
@@ -167,12 +152,6 @@ abbrev pub IsNextOfAny : List (List Listed) → BookView → List SeatView → N
 IsNextOfAny plan book seats next.Played = IsUnderWay book seats
 IsNextOfAny plan book seats next.End = HasNoneLeft plan book seats
 IsNextOfAny plan book seats (next.Wrong mistake) = HasNoSweep book.entries
-
--- the turn can't be played
-abbrev pub IsWrong : Next → Type 0
-IsWrong next.Played = ⊥
-IsWrong next.End = ⊥
-IsWrong (next.Wrong mistake) = Unit {0}
 
 -- the report's turns end, and no line is left at any seat, or one is
 abbrev pub IsEndOfAny : List (List Listed) → List SeatView → Next → Type 0

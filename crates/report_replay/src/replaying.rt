@@ -1,21 +1,21 @@
 //! The turns of a report, played one after another.
-ghost use Rattle.std.specs.Prelude.{◌≡◌, ◌≢◌, ◌+◌, ℕ, List, All, length, map, IfOk, None, Ok};
+ghost use Rattle.std.specs.Prelude.{◌≡◌, ◌+◌, ℕ, List, All, length, map, IfOk};
 ghost use Rattle.call_journal.specs.declared.entry.Entry.{Entry as EntryValue};
 ghost use Rattle.session_lines.specs.declared.session.Session.{Session};
-ghost use Rattle.turn_steps.specs.ListedEvents.{TellsOn};
+ghost use Rattle.listed_events.specs.ListedEvents.{TellsOn};
 ghost use Rattle.turn_player.specs.TurnPlans.{IsTurnPlan};
 ghost use Rattle.alike_law.specs.AlikeTexts.{ListsAlike, Parting};
-ghost use Rattle.report_replay.specs.ReplayedTurns.{HasRead, HasReplayed, IsEndOfAny, IsNextOfAny, IsNextOfReplay, IsLegalReplay, IsNextAfter, IsPlayedByAny, IsReplayed, IsTurnIn, IsUnderWay, IsWrong};
+ghost use Rattle.report_replay.specs.ReplayedTurns.{HasRead, HasReplayed, IsEndOfAny, IsNextOfAny, IsNextOfReplay, IsLegalReplay, IsPlayedByAny, IsReplayed, IsTurnIn, IsUnderWay};
 
 use call_journal::Plan;
 use header_match::Patterns;
+use replay_steps::{Next, next_after};
 use report_compare::{Mistake, Why};
-use report_turns::{EntryTurn, EntryTurns, Found, Misplaced};
-use std::alloc::AllocError;
+use report_turns::{EntryTurn, EntryTurns, Found};
 use std::marker::Model;
 use std::sync::Wait;
 use std::sync::ledger::Ledger;
-use turn_player::{Halt, Table};
+use turn_player::Table;
 use xc_base::Memory;
 use xds_book::{Book, Job, Lane};
 
@@ -34,39 +34,6 @@ impl<'p, 'r, J: Job, L: Ledger> Model for Replay<'p, 'r, J, L> {
     ghost Value = { ReplayView };
 
     ghost view = { λ r. record { plan = r.plan.now.actors; seats = r.table; lines = r.turns } };
-}
-
-/// What comes of what is found next in a report.
-#[derive(Drop)]
-enum Next {
-    /// A turn was played.
-    Played,
-    /// The last sweep was read, or the report's turns end; and all that is listed before the last sweep is played.
-    End,
-    /// The turn can't be played, or the turns end too early.
-    Wrong(Mistake),
-}
-
-/// What comes of a turn that was to be played. The numbers are those of the report's line and of the session's, which is 0 for
-/// the last sweep.
-fn next_after(
-    number: usize,
-    line: u32,
-    played: Result<Option<Misplaced>, Halt>,
-) -> Result<Next, Memory>
-    ensures after { IsNextAfter line played result }
-    ensures wrong { played ≢ Ok None → IfOk result IsWrong }
-{
-    match played {
-        Ok(None) if line == 0 => Ok(Next::End),
-        Ok(None) => Ok(Next::Played),
-        Ok(Some(why)) => Ok(Next::Wrong(Mistake {
-            line: number,
-            why: Why::Misplaced { line, why },
-        })),
-        Err(Halt::Strange) => Ok(Next::Wrong(Mistake::stuck(number))),
-        Err(Halt::Memory) => Err(AllocError),
-    }
 }
 
 impl<'p, 'r, J: Job, L: Ledger> Replay<'p, 'r, J, L> {

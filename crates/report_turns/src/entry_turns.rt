@@ -1,5 +1,5 @@
 //! The first lines of entries, read one after another.
-ghost use Rattle.std.specs.Prelude.{◌≡◌, ◌∷◌, [], IfNone, IfSome, MatchOption, drop, option_map};
+ghost use Rattle.std.specs.Prelude.{◌≡◌, ◌≤◌, ◌∷◌, [], length, slice_get, IfNone, IfSome, MatchOption, Some, drop, option_map};
 ghost use Rattle.xc_base.specs.Numbers.{number_of};
 ghost use Rattle.session_lines.specs.Lines.{lines_of, words_of};
 ghost use Rattle.report_turns.specs.TurnLines.{HasBehind, actor_in, caller_actor, finding_at, goes_on, is_last, line_in, next_of, place_in, seen, turn_in, turn_place};
@@ -19,6 +19,17 @@ pub struct EntryTurn<'a> {
     pub line: u32,
     /// The report behind this line.
     pub more: &'a [u8],
+}
+
+impl EntryTurn<'_> {
+    /// The member of the turn's actor in a table that has one for each actor, the driver's first; None where the table has no
+    /// such member.
+    pub fn find_in<'t, T>(self, table: &'t [T]) -> Option<&'t T>
+        ensures member { IfSome result (λ member. slice_get table.now self.entry.actor ≡ Some member.now) }
+        ensures none { IfNone result (length table.now ≤ self.entry.actor) }
+    {
+        table.get(usize::from(self.actor))
+    }
 }
 
 /// What is found next in a report.

@@ -46,8 +46,8 @@ pub cluster_named : (front : Front) (answer : RouteAnswer) (cluster : Option (Bo
 cluster_named front answer None e = tt
 cluster_named front answer (Some c) e = answer_named front answer c.now (sym e)
 
-pub cluster_is : (front : Front) (answer : RouteAnswer) (routes : List Route) (r : Route) (place choice : ℕ) (cluster : Option (List ℕ)) → answer ≡ To place choice → routes ≡ option_map_or (λ h. h.routes) (slice_get front.routes.hosts front.host) [] → Some r ≡ find (λ r. eqb r.place place) routes → cluster ≡ chosen_of r.action choice → cluster ≡ answer_cluster front answer
-cluster_is front answer routes r place choice cluster is own found chosen =
+pub cluster_is : (front : Front) (answer : RouteAnswer) (host : Host) (r : Route) (place choice : ℕ) (cluster : Option (List ℕ)) → answer ≡ To place choice → Some host ≡ slice_get front.routes.hosts front.host → Some r ≡ find (λ r. eqb r.place place) host.routes → cluster ≡ chosen_of r.action choice → cluster ≡ answer_cluster front answer
+cluster_is front answer host r place choice cluster is own found chosen =
     chosen
-    ∙ (ap (option_and_then (λ (r : Route). chosen_of r.action choice)) (found ∙ ap (find (λ (r : Route). eqb r.place place)) own)
+    ∙ (ap (option_and_then (λ (r : Route). chosen_of r.action choice)) (found ∙ ap (λ o. find (λ (r : Route). eqb r.place place) (option_map_or (λ (h : Host). h.routes) o [])) own)
     ∙ sym (ap (answer_cluster front) is))

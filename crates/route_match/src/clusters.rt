@@ -1,13 +1,12 @@
 //! The cluster that an answer names.
-ghost use Rattle.std.specs.Prelude.{◌≡◌, ◌==◌, option_copied, Contains, IfSome, slice_get, option_map};
-ghost use Rattle.std.specs.List.{find};
+ghost use Rattle.std.specs.Prelude.{◌≡◌, option_copied, Contains, IfSome};
 ghost use Rattle.xds_config.specs.Configs.{front_clusters};
 ghost use Rattle.route_match.specs.NamedClusters.{answer_cluster, chosen_of};
 
 use crate::answer::RouteAnswer;
-use crate::route_choice::routes_of;
+use crate::route_choice::host_of;
 use xc_base::Text;
-use xds_config::{Action, Front, Route};
+use xds_config::{Action, Front};
 
 /// The cluster that an answer names. None exactly where the answer isn't a `To` that the front's virtual
 /// host can give. It takes no memory.
@@ -17,18 +16,12 @@ pub fn cluster_of<'a>(front: &'a Front, answer: &RouteAnswer) -> Option<&'a Text
 {
     match answer {
         RouteAnswer::To { route, choice } => {
-            let route = route_at(routes_of(front), *route)?;
+            let host = host_of(front)?;
+            let route = host.routes.at(*route)?;
             chosen_of(&route.action, *choice)
         }
         _ => None,
     }
-}
-
-/// The first route of a place.
-fn route_at(routes: &[Route], place: u32) -> Option<&Route>
-    ensures { option_copied result ≡ find (λ r. r.place == place) routes.now }
-{
-    routes.iter().find(|route| route.place == place)
 }
 
 /// The cluster at a place of an action's list.

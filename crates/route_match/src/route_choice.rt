@@ -1,5 +1,5 @@
 //! Which route a call takes.
-ghost use Rattle.std.specs.Prelude.{◌≡◌, ◌≤◌, ◌<◌, ◌+◌, ◌*◌, ◌/◌, ◌^◌, false, length, sum, All, AllPairs, IfOk, OnOk};
+ghost use Rattle.std.specs.Prelude.{◌≡◌, ◌≤◌, ◌<◌, ◌+◌, ◌*◌, ◌/◌, ◌^◌, false, length, option_copied, slice_get, sum, All, AllPairs, IfOk, OnOk};
 ghost use Rattle.std.specs.List.{list_all};
 ghost use Rattle.xds_config.specs.RouteValues.{IsLawfulRoute, IsLawfulAction, IsLawfulSplit, weights_of};
 ghost use Rattle.xds_config.specs.Configs.{IsLawfulFront};
@@ -14,7 +14,7 @@ use std::alloc::Global;
 use std::sync::ledger::Ledger;
 use weight_pick::{Fraction, fraction_met};
 use xc_base::{Call, Memory, Reason, Steps, draw};
-use xds_config::{Action, Front, PathTest, Route, Weighted};
+use xds_config::{Action, Front, Host, PathTest, Route, Weighted};
 
 /// Where a call goes (gRFC A28): by the route of least place among those of the front's virtual host whose
 /// path, headers and fraction hold. It counts one step for each route that is tried, and takes memory
@@ -36,11 +36,18 @@ pub fn choose_route<L: Ledger>(
     }
 }
 
+/// A front's virtual host.
+pub(crate) fn host_of(front: &Front) -> Option<&Host>
+    ensures { option_copied result ≡ slice_get front.now.routes.hosts front.now.host }
+{
+    front.routes.get().hosts.as_slice().get(front.host as usize)
+}
+
 /// The routes of a front's virtual host.
-pub(crate) fn routes_of(front: &Front) -> &[Route]
+fn routes_of(front: &Front) -> &[Route]
     ensures { result.now ≡ routes_of front.now }
 {
-    match front.routes.get().hosts.as_slice().get(front.host as usize) {
+    match host_of(front) {
         Some(host) => host.routes.as_slice(),
         None => &[],
     }

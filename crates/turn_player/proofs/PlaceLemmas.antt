@@ -170,9 +170,6 @@ pub seat_at : (found now : List SeatView) (index actor : ℕ) (seat : SeatView) 
 seat_at found now index actor seat same is less here =
     subst (λ (seats : List SeatView). slice_get seats actor ≡ Some seat) same (subst (λ (i : ℕ). slice_get found i ≡ Some seat) is (slice_get_read found (length found) index seat refl less here))
 
-pub beyond_seats : (found now : List SeatView) (index actor : ℕ) → found ≡ now → index ≡ actor → length found ≤ index → length now ≤ actor
-beyond_seats found now index actor same is few = subst (λ (seats : List SeatView). length seats ≤ actor) same (subst (λ (i : ℕ). length found ≤ i) is few)
-
 -- an actor with no seat has no turn
 beyond : (n many : ℕ) → n < many → many ≤ n → ⊥
 beyond n many less more = omega (arith, less, more)

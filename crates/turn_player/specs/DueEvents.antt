@@ -6,11 +6,10 @@ use Rattle.call_journal.specs.declared.entry.What.{What}
 use Rattle.call_journal.specs.declared.plan.ListedEvent.{ListedEvent}
 use Rattle.config_assembly.specs.Orders.{Name}
 use Rattle.xds_history.specs.Responses.{answered_kind, refused_in}
-use Rattle.book_hearing.specs.HeardEvents.{texts_of}
+use Rattle.book_hearing.specs.HeardEvents.{IsShortIn, texts_of}
 use Rattle.xds_book.specs.BookEntries.{Makes}
 use Rattle.xds_book.specs.BookViews.{BookView}
-use Rattle.channel_calls.specs.ChannelPlans.{IsShortIn}
-use Rattle.turn_steps.specs.ListedEvents.{ListsFor}
+use Rattle.listed_events.specs.ListedEvents.{ListsFor}
 use Rattle.turn_player.specs.TurnPlans.{SeatView}
 use Rattle.turn_player.specs.declared.due_events.Act.{Act}
 use Rattle.turn_player.specs.declared.due_events.Act.TheVariants as act

@@ -11,7 +11,7 @@ use Rattle.book_progress.specs.PlayedPlans as played
 use Rattle.book_progress.specs.ProgressKept.{counts_of}
 use Rattle.xds_book.specs.BookEntries.{IsLaneOf, entry_of}
 use Rattle.xds_book.specs.BookViews.{BookView, LaneView}
-use Rattle.turn_steps.specs.ListedEvents.{ListsFor}
+use Rattle.listed_events.specs.ListedEvents.{ListsFor}
 use Rattle.turn_player.specs.TurnPlans.{SeatView}
 use Rattle.turn_player.specs.DueEvents.{told_by}
 

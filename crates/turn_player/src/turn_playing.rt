@@ -3,7 +3,7 @@ ghost use Rattle.std.specs.Prelude.{◌≡◌, ◌≢◌, ◌↔◌, ◌⊎◌, 
 ghost use Rattle.call_journal.specs.declared.plan.ListedEvent.TheVariants as ListedValue;
 ghost use Rattle.book_progress.specs.ProgressKept.{most_entries};
 ghost use Rattle.channel_calls.specs.ChannelPlans.{HasChannelPlan, HasNext};
-ghost use Rattle.turn_steps.specs.ListedEvents.{TellsOn};
+ghost use Rattle.listed_events.specs.ListedEvents.{TellsOn};
 ghost use Rattle.turn_steps.specs.MadeSteps.{CanStep};
 ghost use Rattle.turn_steps.specs.declared.halts.Halt.TheVariants as Halted;
 ghost use Rattle.turn_player.specs.TurnPlans.{IsTurnPlan, SeatView as SeatValue, UpView as UpValue};
@@ -183,7 +183,7 @@ impl<J: Job, L: Ledger> Table<J, L> {
         ensures sweep { AreSeated book.now self.now → AreDone plan.now.actors self.now → IsSweepNext plan.now.actors turn.entry.actor turn.entry.line book.now → IsSweepPlace result }
     {
         let _actors = book.actors();
-        match self.seats.get(usize::from(turn.actor)) {
+        match turn.find_in(self.seats.as_slice()) {
             Some(seat) => place_at(book, plan, seat, turn),
             None => Place::Misplaced(Misplaced::NoActor),
         }

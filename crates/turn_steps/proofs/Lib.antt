@@ -1,3 +1,1 @@
 pub mod TurnSteps
-pub mod TellLemmas
-pub mod PrefixLemmas

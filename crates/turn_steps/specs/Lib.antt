@@ -1,2 +1,1 @@
 pub mod MadeSteps
-pub mod ListedEvents

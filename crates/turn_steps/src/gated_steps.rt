@@ -12,8 +12,8 @@ ghost use Rattle.turn_steps.specs.MadeSteps.{CanStep};
 ghost use Rattle.turn_steps.specs.declared.halts.Halt.TheVariants.{Strange};
 
 use crate::halts::Halt;
-use crate::prepared_events::Coming;
 use lane_checks::{GatedLine, has_to_wait};
+use listed_events::Coming;
 use std::sync::Wait;
 use std::sync::ledger::Ledger;
 use xc_base::{Call, CallId, Shared, Steps};
@@ -47,7 +47,7 @@ pub fn drive<J: Job, R: Wait + Sync, L: Ledger>(
     if !may_go(book, lane, at.after) {
         return Err(Halt::Strange);
     }
-    let Coming { event, prepared } = coming;
+    let (event, prepared) = coming.into_parts();
     match book.apply(rt, lane, at.line, event, prepared, steps) {
         Ok(_) => Ok(()),
         Err(fault) => Err(Halt::from(fault)),

@@ -3,8 +3,6 @@
 
 pub mod gated_steps;
 pub mod halts;
-pub mod prepared_events;
 
 pub use gated_steps::{commit, drive, hold, pick, pin};
 pub use halts::Halt;
-pub use prepared_events::{Coming, prepare_event};

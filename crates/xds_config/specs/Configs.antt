@@ -1,12 +1,10 @@
 -- What holds of a configuration that was assembled of values that passed their checks (gRFC A74, A37).
-use Rattle.std.specs.Prelude.{◌≡◌, ◌≢◌, ◌<◌, ◌^◌, List, [], ℕ, length, bytes_eq, slice_get, position, Option, All, AllPairs, IfOk}
+use Rattle.std.specs.Prelude.{◌≢◌, ◌<◌, ◌^◌, List, [], ℕ, length, bytes_eq, slice_get, position, Option, All, AllPairs, IfOk}
 use Rattle.std.specs.Option.{option_map_or}
-use Rattle.std.specs.Ordering.{nat_cmp}
-use Rattle.std.specs.Cmp.Lexicographic.{slice_cmp}
-use Rattle.std.specs.declared.cmp.Ordering.TheVariants.{Less}
 use Rattle.xds_config.specs.declared.config.Front.{Front}
 use Rattle.xds_config.specs.declared.config.Leaves.{Leaves}
 use Rattle.xds_config.specs.declared.config.Config.{Config}
+pub use Rattle.xds_config.specs.SearchedLists.{IsNameBefore}
 use Rattle.xds_config.specs.RouteValues.{IsLawfulRouteValue, host_clusters}
 use Rattle.xds_config.specs.Endpoints.{IsLawfulEndpoints}
 
@@ -25,10 +23,6 @@ pub record AreLawfulLeaves (leaves : Leaves) : Type 0 where
   pub once : AllPairs (λ a b. a.name ≢ b.name) leaves.leaves
   pub endpoints : All (λ l. IfOk l.state IsLawfulEndpoints) leaves.leaves
   pub few : length leaves.leaves < 2 ^ 31
-
--- a name stands before another by its bytes
-abbrev pub IsNameBefore : List ℕ → List ℕ → Type 0
-IsNameBefore a b = slice_cmp nat_cmp a b ≡ Less
 
 -- the clusters stand in strictly rising order of their names
 pub record IsLawfulConfig (config : Config) : Type 0 where

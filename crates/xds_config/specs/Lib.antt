@@ -2,5 +2,6 @@ pub mod Clusters
 pub mod Configs
 pub mod Endpoints
 pub mod Listeners
+pub mod SearchedLists
 pub mod RouteValues
 pub mod Values

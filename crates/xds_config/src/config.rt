@@ -1,8 +1,8 @@
 //! The configuration of a channel (gRFC A74): its routes, and its clusters with their endpoints.
-ghost use Rattle.std.specs.Prelude.{◌≡◌, ◌<◌, ◌^◌, ◌↔◌, ◌≢◌, Some, length, slice_get, option_map, bytes_eq, position, All, IsNone, IfSome};
-ghost use Rattle.xds_config.specs.Configs.{cluster_place};
+ghost use Rattle.std.specs.Prelude.{◌≡◌};
 
 use crate::endpoint_values::EndpointValue;
+use crate::ordered_clusters::Clusters;
 use crate::route_values::RouteValue;
 use xc_base::{List, Memory, Reason, Same, Shared, Text};
 
@@ -42,32 +42,7 @@ pub struct ClusterEntry {
 #[derive(Drop, PartialEq, Eq)]
 pub struct Config {
     pub front: Result<Front, Reason>,
-    pub clusters: List<Shared<ClusterEntry>>,
-}
-
-impl Config {
-    /// The place of the first cluster of a name, from 0. None exactly where no cluster has the name. It
-    /// takes no memory.
-    pub fn find(&self, name: &Text) -> Option<u32>
-        requires few { length self.now.clusters < 2 ^ 31 }
-        ensures place { result ≡ cluster_place self.now name.now }
-        ensures found { IfSome result (λ i. option_map (λ c. c.name) (slice_get self.now.clusters i) ≡ Some name.now) }
-        ensures none { IsNone result ↔ All (λ c. c.name ≢ name.now) self.now.clusters }
-    {
-        match place_of(self.clusters.as_slice(), name) {
-            Some(place) => Some(place as u32),
-            None => None,
-        }
-    }
-}
-
-/// The place of the first cluster of a name, from 0.
-fn place_of(clusters: &[Shared<ClusterEntry>], name: &Text) -> Option<usize>
-    ensures { result ≡ position (λ c. bytes_eq c.name name.now) clusters.now }
-{
-    clusters
-        .iter()
-        .position(|cluster| cluster.get().name.same(name))
+    pub clusters: Clusters,
 }
 
 impl Clone for Front {

@@ -6,6 +6,8 @@ pub mod cluster_values;
 pub mod config;
 pub mod endpoint_values;
 pub mod listener_values;
+pub mod ordered_clusters;
+pub mod ordered_routes;
 pub mod route_values;
 pub mod value;
 
@@ -13,5 +15,7 @@ pub use cluster_values::{ClusterValue, Shape};
 pub use config::{ClusterEntry, Config, Front, Leaf, Leaves};
 pub use endpoint_values::{EndpointValue, Locality, LocalityId};
 pub use listener_values::{ListenerValue, RoutesFrom};
+pub use ordered_clusters::Clusters;
+pub use ordered_routes::Routes;
 pub use route_values::{Action, Host, PathTest, Route, RouteValue, Weighted};
 pub use value::Value;

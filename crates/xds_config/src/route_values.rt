@@ -1,4 +1,5 @@
 //! The value of a Route resource: virtual hosts with their routes (gRFC A28).
+use crate::ordered_routes::Routes;
 use header_match::{HeaderRule, Pattern};
 use weight_pick::Fraction;
 use xc_base::{List, Same, Text};
@@ -15,7 +16,7 @@ pub struct RouteValue {
 pub struct Host {
     pub name: Text,
     pub domains: List<Text>,
-    pub routes: List<Route>,
+    pub routes: Routes,
 }
 
 /// A route: the calls that it is for, and where they go. Its place, from 0, is the one among all

@@ -38,4 +38,4 @@ loop-place-preserved g c = record {
 }
 
 pub returns-clause-value : goal.returns-clause-value
-returns-clause-value g c = routes_end c.args.raws.now c.loop-place.place c.loop-place.routes c.loop-place-test.false c.loop-place.invariant.value
+returns-clause-value g c = rw c.from_list.ensures (routes_end c.args.raws.now c.loop-place.place c.loop-place.routes c.loop-place-test.false c.loop-place.invariant.value)

@@ -2,6 +2,7 @@ use Rattle.std.proofs.Common.{◌≡◌, false, rules, sym, ap, ap₂, ◌∙◌
 use Rattle.std.specs.List.{list_any}
 use Rattle.dep_manager.specs.EndpointNews.{is_told}
 use Rattle.dep_manager.specs.RenewedConfigs.{joined_marks, renewed_entries}
+use Rattle.dep_manager.proofs.RenewLemmas.{renewed_names}
 use Rattle.dep_manager.proofs.ShownLemmas.{config_changes, config_stays, marked_any, marks_change, marks_stay, nothing_told}
 use Rattle.dep_manager.proofs.config_renewal.renewed_config.Goals as goal
 
@@ -29,16 +30,22 @@ returns-then-not-any_marked-clause-others c =
     c.any_marked.ensures ∙ ap (list_any (λ mark. mark)) (c.deref.ensures.value ∙ c.in_ok-told.ensures) ∙ marked_any (list_any (is_told c.args.news.now)) c.args.sources.now in
     marks_stay c.args.news.now c.args.config c.args.others.items c.args.sources.now (sym any ∙ c.if-not-any_marked.true)
 
+pub renewed-clusters-requires : goal.renewed-clusters-requires
+renewed-clusters-requires c =
+    let entries : c.in_ok-entries.entries ≡ renewed_entries c.args.news.now c.get-2.result.now.clusters c.args.sources.now =
+    c.in_ok-entries.ensures ∙ ap₂ (renewed_entries c.args.news.now) c.as_slice.ensures c.as_slice-2.ensures in
+    rw entries (renewed_names c.args.news.now c.get-2.result.now.clusters c.args.sources.now)
+
 pub returns-clause-config : goal.returns-clause-config
 returns-clause-config c =
     let any : c.any_marked.result ≡ list_any (list_any (is_told c.args.news.now)) c.args.sources.now =
     c.any_marked.ensures ∙ ap (list_any (λ mark. mark)) (c.deref.ensures.value ∙ c.in_ok-told.ensures) ∙ marked_any (list_any (is_told c.args.news.now)) c.args.sources.now in
     let front : c.in_ok-front.front ≡ c.args.config.front = c.in_ok-front.ensures ∙ ap (λ config. config.front) c.get.ensures in
-    let clusters : c.in_ok-clusters.clusters ≡ renewed_entries c.args.news.now c.args.config.clusters c.args.sources.now =
-    c.in_ok-clusters.ensures ∙ ap₂ (renewed_entries c.args.news.now) (c.as_slice.ensures ∙ ap (λ config. config.clusters) c.get-2.ensures) c.as_slice-2.ensures in
-    let with : c.in_ok-config.config ≡ record { front = c.in_ok-front.front; clusters = c.in_ok-clusters.clusters } = search rules in
+    let clusters : c.renewed-clusters.result ≡ renewed_entries c.args.news.now c.args.config.clusters c.args.sources.now =
+    c.renewed-clusters.ensures ∙ c.in_ok-entries.ensures ∙ ap₂ (renewed_entries c.args.news.now) (c.as_slice.ensures ∙ ap (λ config. config.clusters) c.get-2.ensures) c.as_slice-2.ensures in
+    let with : c.in_ok-config.config ≡ record { front = c.in_ok-front.front; clusters = c.renewed-clusters.result } = search rules in
     with
-    ∙ ap (λ found. record { front = found; clusters = c.in_ok-clusters.clusters }) front
+    ∙ ap (λ found. record { front = found; clusters = c.renewed-clusters.result }) front
     ∙ ap (λ entries. record { front = c.args.config.front; clusters = entries }) clusters
     ∙ config_changes c.args.news.now c.args.config c.args.others.items c.args.sources.now (sym any ∙ c.if-not-any_marked.false)
 

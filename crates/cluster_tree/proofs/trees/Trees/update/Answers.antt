@@ -2,10 +2,12 @@ use Rattle.std.proofs.Common.{◌≡◌, Bool, List, length, sym, ap, ◌∙◌,
 use Rattle.std.proofs.lemmas.Grind.{common_steps}
 use Rattle.xds_config.specs.declared.config.Config.{Config}
 use Rattle.xds_config.specs.declared.config.ClusterEntry.{ClusterEntry}
-use Rattle.cluster_tree.specs.StandingTrees.{Forest, ChangesAt, clusters_after}
-use Rattle.cluster_tree.specs.ClusterUsers.{AreIndexed, OthersStay}
+use Rattle.cluster_tree.specs.StandingTrees.{Forest, ChangesAt, clusters_after, views_of}
+use Rattle.cluster_tree.specs.KeptViews.{AreViewsIn}
+use Rattle.cluster_tree.specs.ClusterUsers.{AreIndexed, OthersStay, StandBut}
 use Rattle.cluster_tree.proofs.ClusterLemmas.{all_follow}
 use Rattle.cluster_tree.proofs.ForestLemmas.{indexed_after, others_stay, updated_with, views_pickable}
+use Rattle.cluster_tree.proofs.ViewLemmas.{stay_standing, views_in}
 use Rattle.cluster_tree.proofs.trees.Trees.update.Goals as goal
 
 pub clusters_after-requires-clause-others : goal.clusters_after-requires-clause-others
@@ -20,6 +22,13 @@ clusters_after-requires-clause-others c =
 pub follow_users-requires-clause-follow : goal.follow_users-requires-clause-follow
 follow_users-requires-clause-follow c = all_follow _ _ _ _ _ c.in_ok-next.ensures.clusters
 
+pub views_after-requires-clause-stay : goal.views_after-requires-clause-stay
+views_after-requires-clause-stay c =
+    rw (c.deref-2.ensures.value, c.deref-3.ensures.value)
+    (stay_standing c.in_ok-next.next.anew.items c.replace-before.result c.self.inside.clusters.items c.in_ok-next.next.clusters.items
+    (subst (λ (f : Forest). StandBut c.in_ok-next.next.anew.items f.clusters c.in_ok-next.next.clusters.items) (sym c.self.view_is) c.in_ok-next.ensures.anew)
+    (subst (λ views. AreViewsIn views c.self.inside.clusters.items) (sym c.replace-before.ensures.value) c.self.invariant.seen))
+
 pub invariant_of-self-2 : goal.invariant_of-self-2
 invariant_of-self-2 c =
     let is : c.in_ok-next.next.clusters.items ≡ clusters_after c.args.now c.args.reports.now.entries c.args.config.now.clusters c.self.inside.clusters.items =
@@ -28,6 +37,7 @@ invariant_of-self-2 c =
     record {
       indexed = indexed_after c.args.now c.args.reports.now.entries c.args.config.now.clusters c.self.inside.users c.follow_users.new.users c.self.inside.clusters.items c.in_ok-next.next.clusters.items c.requires.lawful.clusters c.requires.lawful.rising c.self.invariant.indexed is c.in_ok-follow_users.ensures;
       quiet = c.in_ok-next.ensures.quiet;
+      seen = views_in c.in_ok-next.next.clusters.items c.in_ok-seen.seen (c.in_ok-seen.ensures ∙ (c.in_ok-views.ensures ∙ ap views_of c.deref-2.ensures.value));
     }
 
 pub returns-clause-pickable : goal.returns-clause-pickable

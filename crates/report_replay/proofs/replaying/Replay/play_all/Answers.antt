@@ -1,8 +1,8 @@
 use Rattle.std.proofs.Common.{rules, ◌≡◌, ◌+◌, ◌-◌, ◌^◌, List, inr, subst, sym, ◌∙◌}
 use Rattle.call_journal.specs.declared.plan.Listed.{Listed}
-use Rattle.turn_steps.proofs.TellLemmas.{tells_through}
+use Rattle.listed_events.proofs.TellLemmas.{tells_through}
 use Rattle.report_replay.specs.ReplayedTurns.{IsLegalReplay, IsNextOfAny, IsNextOfReplay}
-use Rattle.report_replay.specs.declared.replaying.Next.{Next}
+use Rattle.replay_steps.specs.declared.next_turns.Next.{Next}
 use Rattle.report_replay.proofs.PlayLemmas.{all_played, mistake_found, told_same, turns_are_few}
 use Rattle.report_replay.proofs.replaying.Replay.play_all.Goals as goal
 

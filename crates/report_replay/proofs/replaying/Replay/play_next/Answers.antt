@@ -4,7 +4,7 @@ use Rattle.session_lines.specs.declared.session.Session.{Session}
 use Rattle.alike_law.specs.AlikeTexts.{ListsAlike, Parting}
 use Rattle.report_turns.specs.TurnLines.{end, strange}
 use Rattle.report_replay.specs.ReplayedTurns.{HasReplayed, IsBeyond, IsLegalReplay, IsNextOfAny, IsNextOfReplay, IsTurnIn, IsUnderWay, ReplayView}
-use Rattle.report_replay.specs.declared.replaying.Next.{Next}
+use Rattle.replay_steps.specs.declared.next_turns.Next.{Next}
 use Rattle.report_replay.proofs.AnyLemmas.{end_of_any}
 use Rattle.report_replay.proofs.FoundLemmas.{entry_found, none_found}
 use Rattle.report_replay.proofs.PlayLemmas.{beyond_next, if_ok}

@@ -3,10 +3,11 @@ use Rattle.call_journal.specs.declared.entry.Entry.{Entry}
 use Rattle.session_lines.specs.declared.session.Session.{Session}
 use Rattle.alike_law.specs.AlikeTexts.{Parting}
 use Rattle.completion_law.specs.CompletionLaw.{HasNoSweep}
-use Rattle.turn_steps.specs.ListedEvents.{TellsOn}
+use Rattle.listed_events.specs.ListedEvents.{TellsOn}
 use Rattle.xds_book.specs.BookKept.{HasActors}
-use Rattle.report_replay.specs.ReplayedTurns.{IsLegalReplay, IsNextOfAny, IsNextOfReplay, IsTurnIn, IsUnderWay, ReplayView, next_made}
-use Rattle.report_replay.specs.declared.replaying.Next.{Next}
+use Rattle.replay_steps.specs.NextTurns.{next_made}
+use Rattle.report_replay.specs.ReplayedTurns.{IsLegalReplay, IsNextOfAny, IsNextOfReplay, IsTurnIn, IsUnderWay, ReplayView}
+use Rattle.replay_steps.specs.declared.next_turns.Next.{Next}
 use Rattle.report_replay.proofs.AnyLemmas.{next_of_any, turn_leaves_any}
 use Rattle.report_replay.proofs.PlayLemmas.{IsMade, next_is, next_tells, not_misplaced, not_strange, turn_leaves, turn_stops}
 use Rattle.report_replay.proofs.replaying.Replay.play_turn.Goals as goal

@@ -1,0 +1,6 @@
+use Rattle.std.proofs.Common.{◌≡◌, ◌*◌, take}
+use Rattle.cluster_tree.specs.StandingTrees.{views_of}
+use Rattle.cluster_tree.proofs.cluster_views.views_after.Given as goal
+
+abbrev pub invariant-loop-number : goal.invariant-loop-number
+invariant-loop-number l = l.after ≡ views_of (take (32 * l.number) l.clusters)

@@ -1,6 +1,0 @@
-use Rattle.std.proofs.Common.{◌≡◌, take}
-use Rattle.cluster_tree.specs.StandingTrees.{views_of}
-use Rattle.cluster_tree.proofs.trees.views_of.Given as goal
-
-abbrev pub invariant-loop-cluster : goal.invariant-loop-cluster
-invariant-loop-cluster l = l.views ≡ views_of (take l.cluster-index l.clusters)

@@ -1,0 +1,6 @@
+//! What comes of each turn of a report that is to be played.
+#![tactic(auto)]
+
+pub mod next_turns;
+
+pub use next_turns::{Next, next_after};
