@@ -3,7 +3,7 @@ use Rattle.std.proofs.Common.{◌≡◌, ◌<◌, ◌≤◌, ℕ, zero, suc, Lis
 use Rattle.std.proofs.lemmas.Bool.Decides.{nat_tests}
 use Rattle.std.proofs.lemmas.List.Concat.{flat_map-cons}
 use Rattle.std.specs.Char.{is_ascii}
-use Rattle.std.specs.List.{flat_map}
+use Rattle.std.specs.List.{flat_map, list_all}
 use Rattle.percent_encoding.specs.AsciiSet.{contains, should_percent_encode}
 use Rattle.percent_encoding.specs.Percent.{percent_encode, percent_encode_byte, encode_byte}
 use Rattle.report_parts.specs.ReportWords.{stays, escaped}
@@ -72,3 +72,22 @@ each_escaped (b ∷ bs) =
 pub escaped_by_set : (name : List ℕ) → percent_encode ESCAPED name ≡ escaped name
 unfolding percent_encode escaped
 escaped_by_set name = each_escaped name
+
+-- ---- texts in which nothing is escaped
+
+kept : (t : Bool) (b : ℕ) → t ≡ true → cond t (b ∷ []) (percent_encode_byte b) ≡ b ∷ []
+kept true b is = refl
+kept false b is = absurd (cc)
+
+each_kept : (text : List ℕ) → list_all stays text ≡ true → flat_map (λ b. cond (stays b) (b ∷ []) (percent_encode_byte b)) text ≡ text
+each_kept [] all = refl
+each_kept (b ∷ bs) all =
+    let h = both (stays b) (list_all stays bs) all in
+    flat_map-cons (λ c. cond (stays c) (c ∷ []) (percent_encode_byte c)) b bs
+    ∙ ap (λ xs. xs ++ flat_map (λ c. cond (stays c) (c ∷ []) (percent_encode_byte c)) bs) (kept (stays b) b h.0)
+    ∙ ap (λ xs. (b ∷ []) ++ xs) (each_kept bs h.1)
+
+-- where each byte stays, the text does
+pub plain : (text : List ℕ) → list_all stays text ≡ true → escaped text ≡ text
+unfolding escaped
+plain text all = each_kept text all

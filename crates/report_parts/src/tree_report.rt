@@ -2,7 +2,7 @@
 ghost use Rattle.std.specs.Prelude.{◌≡◌, ◌++◌, ◌-◌, OnOk, length, position, string_bytes, unwrap_or};
 ghost use Rattle.report_parts.specs.TreeText.{before_child, child_text, children_text, if_so, is_near, is_trying, tree_text, view_text, waiting_place, waiting_text};
 
-use crate::report_words::{push_escaped, state_word};
+use crate::report_words::{push_escaped, push_number, state_word};
 use cluster_tree::{NamedChild, TreeView};
 use priority_lb::ChildView;
 use std::fmt::Write;
@@ -25,7 +25,9 @@ fn push_view(out: &mut String, view: ChildView) -> Result<(), Memory>
     let state = state_word(view.state);
     let pending = if_so(view.pending, "+");
     let unused = if_so(view.unused, "~");
-    write!(out, "{state}{pending}{unused}")
+    out.push_str(state)?;
+    out.push_str(pending)?;
+    out.push_str(unused)
 }
 
 /// Adds a child: its leaf, its priority, and its state with its marks.
@@ -34,8 +36,9 @@ fn push_child(out: &mut String, child: &NamedChild) -> Result<(), Memory>
     ensures { OnOk result (string_bytes out.new ≡ string_bytes out.old ++ child_text child.now) }
 {
     push_escaped(out, &child.leaf)?;
-    let priority = child.priority;
-    write!(out, "/{priority}:")?;
+    out.push_str("/")?;
+    push_number(out, child.priority)?;
+    out.push_str(":")?;
     push_view(out, child.view)
 }
 

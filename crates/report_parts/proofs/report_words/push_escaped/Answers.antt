@@ -6,4 +6,4 @@ use Rattle.report_parts.proofs.report_words.push_escaped.Goals as goal
 pub returns : goal.returns
 returns c =
     c.in_ok-append_to.ensures.ok
-    ∙ ap (λ text. string_bytes c.args.out.now ++ text) (c.utf8_percent_encode.ensures.text ∙ escaped_by_set c.as_str.result.now ∙ ap escaped c.as_str.ensures)
+    ∙ ap (λ text. string_bytes c.args.out.now ++ text) (c.utf8_percent_encode.ensures.text ∙ escaped_by_set c.as_str-text.result.now ∙ ap escaped c.as_str-text.ensures)
