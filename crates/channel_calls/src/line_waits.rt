@@ -5,15 +5,40 @@ ghost use Rattle.channel_calls.specs.ChannelFaults.{IsFirst};
 use crate::channel_faults::First;
 use std::alloc::Global;
 use std::marker::Model;
+use std::mem;
 use xc_base::Memory;
 
-/// The line that each actor waits for, or waited for last; the first fault, once there is one; and whether there is something
-/// that those who wait want to know. Contracts see the first fault.
+/// Who of those who wait has something to learn.
+#[derive(Clone, Copy)]
+pub(crate) struct News {
+    /// Whether the driver has.
+    pub(crate) driver: bool,
+    /// Whether a caller has.
+    pub(crate) callers: bool,
+}
+
+impl News {
+    /// Nobody has.
+    const NONE: News = News {
+        driver: false,
+        callers: false,
+    };
+
+    /// All have.
+    const ALL: News = News {
+        driver: true,
+        callers: true,
+    };
+}
+
+/// The line that the driver and each caller waits for, or waited for last; the first fault, once there is one; and who has
+/// something to learn. Contracts see the first fault.
 #[derive(Drop)]
 pub(crate) struct Waits {
     first: Option<First>,
-    lines: Vec<Option<u32>>,
-    has_news: bool,
+    driver: Option<u32>,
+    callers: Vec<Option<u32>>,
+    news: News,
 }
 
 impl Model for Waits {
@@ -33,11 +58,12 @@ impl Waits {
     pub(crate) fn new(alloc: Global, actors: usize) -> Result<Waits, Memory>
         ensures { IfOk result (λ waits. waits ≡ None) }
     {
-        let lines = vec![in alloc; None; actors]?;
+        let callers = vec![in alloc; None; actors.saturating_sub(1)]?;
         Ok(Waits {
             first: None,
-            lines,
-            has_news: false,
+            driver: None,
+            callers,
+            news: News::NONE,
         })
     }
 
@@ -49,43 +75,47 @@ impl Waits {
         self.first
     }
 
-    /// Keeps the first fault, of which those who wait want to know.
+    /// Keeps the first fault, of which all who wait learn.
     pub(crate) fn end(&mut self, first: First)
         requires { IsFirst first }
         ensures { self.new ≡ Some first }
     {
         self.first = Some(first);
-        self.has_news = true;
+        self.news = News::ALL;
     }
 
     /// Notes the line that an actor waits for.
     pub(crate) fn note(&mut self, actor: u16, line: Option<u32>)
         ensures { self.new ≡ self.old }
     {
-        let actor = usize::from(actor);
-        if actor < self.lines.len() {
-            self.lines[actor] = line;
+        let Some(caller) = usize::from(actor).checked_sub(1) else {
+            self.driver = line;
+            return;
+        };
+        if caller < self.callers.len() {
+            self.callers[caller] = line;
         }
     }
 
-    /// Whether an actor waits for the line.
-    pub(crate) fn is_awaited(&self, line: u32) -> bool {
-        self.lines.contains(&Some(line))
+    /// Who waits for the line, and so learns of its end.
+    pub(crate) fn news_of(&self, line: u32) -> News {
+        News {
+            driver: self.driver == Some(line),
+            callers: self.callers.contains(&Some(line)),
+        }
     }
 
-    /// Notes that those who wait want to know of a line.
-    pub(crate) fn tell(&mut self)
+    /// Keeps who has something to learn.
+    pub(crate) fn tell(&mut self, news: News)
         ensures { self.new ≡ self.old }
     {
-        self.has_news = true;
+        self.news = news;
     }
 
-    /// Whether there is something that those who wait want to know, which they are told now.
-    pub(crate) fn take_news(&mut self) -> bool
+    /// Who has something to learn, and is told now.
+    pub(crate) fn take_news(&mut self) -> News
         ensures { self.new ≡ self.old }
     {
-        let has_news = self.has_news;
-        self.has_news = false;
-        has_news
+        mem::replace(&mut self.news, News::NONE)
     }
 }

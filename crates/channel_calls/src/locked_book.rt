@@ -12,7 +12,7 @@ ghost use Rattle.channel_calls.specs.ChannelPlans.{HasActor, HasChannelPlan, Has
 ghost use Rattle.channel_calls.specs.LockedBooks.{IsAfterEvent, IsAfterPin, IsFree, IsOpenTo, lane_ended, lane_held};
 
 use crate::channel_faults::{ChanFault, First};
-use crate::line_waits::Waits;
+use crate::line_waits::{News, Waits};
 use call_journal::DriverEvent;
 use lane_checks::{Difference, GatedLine, find_difference, has_to_wait};
 use resource_check::Prepared;
@@ -77,22 +77,21 @@ impl<J: Job> Locked<J> {
         self.waits.first().is_none() && has_to_wait(&self.book, lane, after)
     }
 
-    /// Notes for which line a step of the lane waits, if it has to wait.
+    /// Notes for which line a step of the lane waits.
     pub(crate) fn note(&mut self, lane: &Lane<J>, after: Option<u32>) {
-        if self.holds_back(lane, after) {
-            self.waits.note(lane.actor(), after);
-        }
+        self.waits.note(lane.actor(), after);
     }
 
-    /// Whether there is something that those who wait want to know, which they are told now.
-    pub(crate) fn take_news(&mut self) -> bool {
+    /// Who of those who wait has something to learn, and is told now.
+    pub(crate) fn take_news(&mut self) -> News {
         self.waits.take_news()
     }
 
     /// Tells those who wait for the line, where it has ended.
     fn tell(&mut self, line: u32) {
-        if self.waits.is_awaited(line) && self.book.line_done(line) {
-            self.waits.tell();
+        let news = self.waits.news_of(line);
+        if (news.driver || news.callers) && self.book.line_done(line) {
+            self.waits.tell(news);
         }
     }
 

@@ -27,7 +27,6 @@ use lane_checks::GatedLine;
 use route_match::RouteAnswer;
 use snapshot_store::Archive;
 use std::alloc::Global;
-use std::hint::spin_loop;
 use std::marker::Model;
 use std::sync::ledger::Ledger;
 use std::sync::{Condvar, Mutex, MutexGuard, Wait};
@@ -36,9 +35,6 @@ use xc_base::{Call, CallId, List, Memory, Shared, Steps};
 use xds_book::{Book, Job, Lane, Pinned};
 use xds_bootstrap::Bootstrap;
 use xds_name::Target;
-
-/// How often the lock is tried before a thread sleeps for it.
-const TRIES: u32 = 400;
 
 /// For how many seconds a thread sleeps at most before it looks again whether the line for which it waits has ended.
 const LONGEST_SLEEP: u64 = 3_600;
@@ -49,7 +45,9 @@ const LONGEST_SLEEP: u64 = 3_600;
 pub struct Channel<J: Job> {
     alloc: Global,
     locked: Mutex<Locked<J>>,
-    told: Condvar,
+    /// On this the driver sleeps, and on the other the callers: they seldom wait for the same line.
+    told_driver: Condvar,
+    told_callers: Condvar,
 }
 
 impl<J: Job> Model for Channel<J> {
@@ -91,7 +89,8 @@ impl<J: Job> Channel<J> {
         let channel = Channel {
             alloc,
             locked: Mutex::new(locked),
-            told: Condvar::new(),
+            told_driver: Condvar::new(),
+            told_callers: Condvar::new(),
         };
         Ok((channel, lanes))
     }
@@ -202,9 +201,11 @@ impl<J: Job> Channel<J> {
         let Channel {
             alloc: _,
             locked,
-            told,
+            told_driver,
+            told_callers,
         } = self;
-        drop(told);
+        drop(told_driver);
+        drop(told_callers);
         locked.into_inner().into_book()
     }
 
@@ -213,7 +214,7 @@ impl<J: Job> Channel<J> {
     pub fn run_out<R: Wait>(&self, rt: &R) -> ChanFault
         ensures { (count : CountValue) → IsCauseAt count result }
     {
-        let mut locked = self.lock(rt);
+        let mut locked = self.locked.lock(rt);
         let fault = locked.run_out();
         self.leave(locked);
         fault
@@ -229,40 +230,39 @@ impl<J: Job> Channel<J> {
     ) -> MutexGuard<'_, Locked<J>>
         ensures { IsFree lane.now after (mutex_guard_value result) }
     {
-        let mut locked = self.lock(rt);
-        locked.note(lane, after);
+        let mut locked = self.locked.lock(rt);
         for _ in rt.forever() {
             if !locked.holds_back(lane, after) {
                 return locked;
             }
-            let told = self.told.notifications();
+            locked.note(lane, after);
+            let told = self.told(lane.actor());
+            let before = told.notifications();
             drop(locked);
-            self.told
-                .sleep(rt, told, Duration::from_secs(LONGEST_SLEEP));
-            locked = self.lock(rt);
+            told.sleep(rt, before, Duration::from_secs(LONGEST_SLEEP));
+            locked = self.locked.lock(rt);
         }
         locked
     }
 
-    /// Takes the lock. It is tried for some microseconds before the thread sleeps for it: a step holds it for about one, a
-    /// thread that sleeps takes many to come back, and while one sleeps, others that find the lock taken sleep too.
-    fn lock<R: Wait>(&self, rt: &R) -> MutexGuard<'_, Locked<J>> {
-        for _ in 0..TRIES {
-            if let Some(locked) = self.locked.try_lock() {
-                return locked;
-            }
-            spin_loop();
+    /// The condition variable on which an actor sleeps.
+    fn told(&self, actor: u16) -> &Condvar {
+        match actor {
+            0 => &self.told_driver,
+            _ => &self.told_callers,
         }
-        self.locked.lock(rt)
     }
 
-    /// Lets the lock go, and tells those who wait what they want to know.
+    /// Lets the lock go, and wakes those who wait and have something to learn.
     fn leave(&self, locked: MutexGuard<'_, Locked<J>>) {
         let mut locked = locked;
-        let has_news = locked.take_news();
+        let news = locked.take_news();
         drop(locked);
-        if has_news {
-            self.told.notify_all();
+        if news.driver {
+            self.told_driver.notify_all();
+        }
+        if news.callers {
+            self.told_callers.notify_all();
         }
     }
 
