@@ -1,7 +1,7 @@
 # Tests of tools/built.sh on a copy of the sources, with a small script in place of `rt`: what is built once is used again
 # while no source that it is made of changes, with and without proof, and what fails is told. A kit that is laid out as the
-# short way needs it is tried too: the short way reads code without contracts, its clang has the linker compile modules, and
-# where it fails the long way is taken.
+# short way needs it is tried too: the short way reads code without contracts, its clang has the linker compile modules, its
+# linker keeps the program, and where it fails the long way is taken.
 set -eu
 cd "$(dirname "$0")/.."
 room=$(mktemp -d)
@@ -32,6 +32,7 @@ case $1 in
       ! grep -rqE '^ *(requires|ensures) ' ../*/src || exit 2
     fi
     mkdir -p "$TMPDIR/rt-try/native" && program "$way" "$TMPDIR/rt-try/native/program"
+    [ "$way" = unproved ] || "$(dirname "$clang")/ld.lld" a -o "$TMPDIR/rt-try/native/program" >&2
     for _ in $(seq 500); do
       sleep 0.02
       [ "$(stat -c %h "$TMPDIR/rt-try/native/program")" = 1 ] || break

@@ -1,14 +1,14 @@
 #!/usr/bin/env python3
 """tools/try_build.py NAME: builds a program of this repository without any proof, and prints the path at which it is kept.
 
-`rt try` builds and runs a program, and then removes it. So this links the program to out/unproved/ while `rt try` runs it
-on no input. What was built is used again while the sum of its sources, and the kit's, stay the same. Where no program can
-be kept, a script stands in its place that runs `rt try` each time.
+`rt try` builds a program, runs it, here on no input, and then removes it. What was built is kept in out/unproved/, and used
+again while the sum of its sources, and the kit's, stay the same.
 
 The short way is taken first: `rt try` of a copy of the sources without contracts (bare_sources.py), by a kit of links
-that compiles in parts side by side and without the address sanitizer (linked_kit.py). The kit doesn't promise that its files
-lie where that needs them. So where there is no such kit, or the short way builds nothing, `rt try` is called as the kit
-documents it.
+that compiles in parts side by side and without the address sanitizer, and keeps the program (linked_kit.py). The kit doesn't
+promise that its files lie where that needs them. So where there is no such kit, or the short way builds nothing, `rt try` is
+called as the kit documents it. Then the program is linked to out/unproved/ while it runs, and where that comes too late, a
+script stands in its place that runs `rt try` each time.
 """
 
 import hashlib
@@ -73,16 +73,17 @@ def words_of(name):
     return [str(folder / "data" / it) if (folder / "data" / it).exists() else it for it in words]
 
 
-def try_once(rt, folder, kept):
-    """Runs `rt try` in a crate's folder and keeps its program; answers what it said, and whether the program ran."""
+def try_once(rt, folder, look=lambda room: None):
+    """Runs `rt try` in a crate's folder, and meanwhile looks at the room that it works in again and again; answers what it said,
+    and whether the program ran."""
     with tempfile.TemporaryDirectory(prefix="try-", dir=KEPT) as room, tempfile.TemporaryFile("w+") as said:
         how = {"stdin": subprocess.DEVNULL, "stdout": subprocess.DEVNULL, "stderr": said}
         environment = {**os.environ, "TMPDIR": room}
         start = time.monotonic()
-        words = [rt, "try", "--steps", "1", "--", *words_of(kept.name)]
+        words = [rt, "try", "--steps", "1", "--", *words_of(folder.name)]
         run = subprocess.Popen(words, cwd=folder, env=environment, **how)
         while run.poll() is None:
-            link_program(pathlib.Path(room), kept)
+            look(pathlib.Path(room))
             tell_time(start)
             time.sleep(pause_of(pathlib.Path(room)))
         if sys.stderr.isatty():
@@ -99,8 +100,8 @@ def try_shortly(kit, kept):
         room = pathlib.Path(room)
         try:
             bare_sources.copy_bare(crates.HOME, [known[it] for it in crates.below(known, name)], room / "sources")
-            rt = linked_kit.link_kit(kit, room / "kit")
-            said, ran = try_once(rt, room / "sources/crates" / name, kept)
+            rt = linked_kit.link_kit(kit, room / "kit", kept)
+            said, ran = try_once(rt, room / "sources/crates" / name)
         except OSError as fault:
             return str(fault)
     return "" if ran and kept.exists() else first_fault(said)
@@ -115,7 +116,7 @@ def first_fault(said):
 def try_in_full(name, kept):
     """Builds a program as the kit documents it, or ends with what it said."""
     folder = crates.HOME / "crates" / name
-    said, ran = try_once("rt", folder, kept)
+    said, ran = try_once("rt", folder, lambda room: link_program(room, kept))
     if not ran:
         sys.exit(f"{said}tools/built.sh: {name} isn't built")
     if not kept.exists():
