@@ -24,16 +24,17 @@ def programs():
     return [built()] + ([str(pathlib.Path(other).resolve())] if other else [])
 
 
-def alone(program, words, given, is_written=True):
-    """The user time in seconds and the peak memory in bytes of one run of a program over a file, by itself. Where nothing is
-    to be written, it meets an output that takes no byte, and ends with the status of a write fault."""
+def alone(program, words, given, is_written=True, with_system=False):
+    """The user time in seconds, with the system's where it is asked for, and the peak memory in bytes of one run of a program over
+    a file, by itself. Where nothing is to be written, it meets an output that takes no byte, and ends with the status of a write
+    fault."""
     output, wanted, said = (os.devnull, "0", None) if is_written else (FULL, "5", subprocess.DEVNULL)
     command = [sys.executable, "-I", "-S", ALONE, given, output, program, *words]
     ran = subprocess.run(command, stdout=subprocess.PIPE, stderr=said, check=True, text=True)
-    took, memory, status = ran.stdout.split()
+    took, system, memory, status = ran.stdout.split()
     if status != wanted:
         raise SystemExit(f"{program}: status {status}")
-    return float(took), float(memory)
+    return float(took) + (float(system) if with_system else 0), float(memory)
 
 
 def seconds(command, text, runs, is_right=None):

@@ -1,12 +1,13 @@
-"""bench/whole.py [--runs N] [--only KIND..] [--threads] [--svg FILE] [--most RATIO] [--most-twice RATIO]: what whole sessions
-cost.
+"""bench/whole.py [--runs N] [--only KIND..] [--threads] [--system] [--svg FILE] [--most RATIO] [--most-twice RATIO]: what whole
+sessions cost.
 
 Each kind of session is played in three sizes, each twice as large as the one before; tools/large_sessions.py makes most of
 them, and `load` and `gen` need none. Told are user time and peak memory, the least of N runs of the whole program, and
 how much longer the largest one takes than the one before. XDS_YARDSTICK names another program with the same commands: then
 both play by turns, what they write is compared in the smallest size, and the ratio of their times is told too. With --threads
-the other program gets the word --threads, by which it plays on threads, too. --svg draws the times over the sizes. With --most the status is 1 where a ratio to the other program is above it, with --most-twice
-where one to half the size is.
+the other program gets the word --threads, by which it plays on threads, too. With --system the time that the system works for a
+program is counted, too, as when it wakes threads. --svg draws the times over the sizes. With --most the status is 1 where a
+ratio to the other program is above it, with --most-twice where one to half the size is.
 """
 
 import argparse
@@ -39,8 +40,9 @@ KINDS = {
 class Run:
     """One kind of session in one size: its input, and what each program needs for it."""
 
-    def __init__(self, kind, size, programs, room, more):
-        self.more = {program: more for program in programs[1:]}
+    def __init__(self, kind, size, programs, room, given):
+        self.more = {program: ["--threads"] * given.threads for program in programs[1:]}
+        self.with_system = given.system
         self.size, self.best = size, {program: (float("inf"), float("inf")) for program in programs}
         self.words, self.input = (["load", str(size)] if kind == "load" else ["run"]), pathlib.Path(os.devnull)
         if kind != "load":
@@ -50,7 +52,8 @@ class Run:
     def measure(self):
         """Runs each program once, and keeps the least time and memory."""
         for program, best in self.best.items():
-            self.best[program] = tuple(map(min, best, timing.alone(program, self.words_for(program), self.input)))
+            cost = timing.alone(program, self.words_for(program), self.input, with_system=self.with_system)
+            self.best[program] = tuple(map(min, best, cost))
 
     def words_for(self, program):
         """The words that a program gets."""
@@ -75,14 +78,14 @@ def session(kind, size, program):
     return large_sessions.text(large_sessions.KINDS[kind](size))
 
 
-def measured(kind, programs, runs, more):
-    """A kind's runs in its three sizes; the other program gets these words more."""
+def measured(kind, programs, given):
+    """A kind's runs in its three sizes, as these words have them."""
     largest = KINDS[kind][2]
     with tempfile.TemporaryDirectory() as room:
-        found = [Run(kind, largest // part, programs, pathlib.Path(room), more) for part in (4, 2, 1)]
+        found = [Run(kind, largest // part, programs, pathlib.Path(room), given) for part in (4, 2, 1)]
         if len({found[0].written(program) for program in programs}) > 1:
             raise SystemExit(f"{kind}: the programs write different texts")
-        for _ in range(runs):
+        for _ in range(given.runs):
             for run in found:
                 run.measure()
     return found
@@ -128,6 +131,7 @@ def words():
     parser.add_argument("--runs", type=int, default=10, help="how often each session is played")
     parser.add_argument("--only", nargs="+", choices=KINDS, default=list(KINDS), help="the kinds of sessions")
     parser.add_argument("--threads", action="store_true", help="the other program plays on threads, too")
+    parser.add_argument("--system", action="store_true", help="the time that the system works for a program counts, too")
     parser.add_argument("--svg", type=pathlib.Path, help="the file of a drawing")
     timing.add_most(parser)
     parser.add_argument("--most-twice", type=float, help="the greatest ratio to half the size that is allowed")
@@ -138,7 +142,7 @@ def main():
     given, programs, panels, is_above = words(), timing.programs(), [], False
     print(head(programs))
     for kind in given.only:
-        runs = measured(kind, programs, given.runs, ["--threads"] if given.threads else [])
+        runs = measured(kind, programs, given)
         print(row(kind, runs, programs), flush=True)
         panels.append(plot.Panel(kind.replace("_", " "), KINDS[kind][1], curves(runs, programs)))
         is_above |= given.most_twice is not None and twice(runs, programs[0]) > given.most_twice
