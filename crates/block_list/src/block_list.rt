@@ -1,5 +1,5 @@
 //! A list in blocks.
-ghost use Rattle.std.specs.Prelude.{◌≡◌, ◌<◌, ◌≤◌, ◌*◌, ◌%◌, ◌++◌, [], length, take, drop, slice_get, option_map, Some, IfOk, IfSome, OnOk};
+ghost use Rattle.std.specs.Prelude.{◌≡◌, ◌<◌, ◌≤◌, ◌*◌, ◌%◌, ◌++◌, [], length, take, drop, slice_get, option_map, Some, None, IfOk, IfSome, OnOk};
 
 use std::alloc::Global;
 use std::marker::Model;
@@ -64,7 +64,8 @@ impl<T: Drop> BlockList<T> {
 
     /// The block of a number, from 0, which begins at the place that is 32 times as much; none where there is no such block.
     pub fn block(&self, number: usize) -> Option<&Shared<List<T>>>
-        ensures { IfSome result (λ b. b.now ≡ take 32 (drop (32 * number) self.now)) }
+        ensures members { IfSome result (λ b. b.now ≡ take 32 (drop (32 * number) self.now)) }
+        ensures none { result ≡ None → length self.now ≤ 32 * number }
     {
         self.blocks.as_slice().get(number)
     }
