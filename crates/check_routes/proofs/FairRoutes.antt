@@ -1,7 +1,7 @@
 -- The check of a listener or of routes that stops at a text stops at one that is refused.
-use Rattle.std.proofs.Common.{◌≡◌, ℕ, ◌+◌, List, [], ◌∷◌, Bool, true, false, Option, Some, None, refl}
-use Rattle.std.specs.Prelude.{bytes_eq, unwrap_or, Result, Ok, Err}
-use Rattle.std.specs.List.{cons_option, list_all}
+use Rattle.std.proofs.Common.{ℕ, ◌+◌, List, [], ◌∷◌, Bool, true, Option, Some, None}
+use Rattle.std.specs.Prelude.{bytes_eq, unwrap_or, Ok}
+use Rattle.std.specs.List.{list_all}
 use Rattle.xc_base.specs.declared.reason.Reason.TheVariants as reason
 use Rattle.proto_discovery.specs.declared.any.AnyValue.{AnyValue}
 use Rattle.proto_discovery.specs.TypeUrls.{manager_url}
@@ -33,7 +33,7 @@ use Rattle.check_steps.specs.Asking.{pattern_of}
 use Rattle.check_steps.specs.CallFractions.{runtime_part}
 use Rattle.check_steps.specs.ResourceNames.{required_name}
 use Rattle.check_steps.specs.Sources.{is_sourced}
-use Rattle.check_steps.specs.TableSteps.{◌>>=◌, demand, each, readable}
+use Rattle.check_steps.specs.TableSteps.{demand, each}
 use Rattle.check_steps.proofs.FairLemmas.{IsFair, fair_demand, fair_each, fair_if, fair_name, fair_pattern, fair_readable, fair_runtime, fair_then}
 use Rattle.check_routes.specs.HeaderTable.{header_rule, header_test, pattern_test, string_test}
 use Rattle.check_routes.specs.RouteTable.{action_of, can_be_chosen, forward, host_of, host_with, is_left_out, kept_of, match_in, names_few, path_test, route_of, route_value, routes_from, split_of, weighted_of}

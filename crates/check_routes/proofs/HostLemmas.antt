@@ -1,5 +1,5 @@
 -- The names of a virtual host: how many different ones there are.
-use Rattle.std.proofs.Common.{◌≡◌, ◌≤◌, ◌<◌, ℕ, zero, suc, ◌+◌, ◌-◌, leb, subst, List, [], ◌∷◌, ◌++◌, length, take, reverse, Bool, true, false, cond, ◌||◌, ◌&&◌, get_or, refl, sym, ap, ◌∙◌, arith}
+use Rattle.std.proofs.Common.{◌≡◌, ◌≤◌, ◌<◌, ℕ, zero, suc, ◌+◌, ◌-◌, leb, subst, List, [], ◌∷◌, length, take, reverse, Bool, true, false, cond, ◌||◌, ◌&&◌, get_or, refl, sym, ap, ◌∙◌, arith}
 use Rattle.std.specs.Prelude.{All, Contains, IsTrue, bytes_eq, Ok}
 use Rattle.std.specs.List.{list_all}
 use Rattle.std.specs.Ordering.{nat_cmp, is_eq}

@@ -10,7 +10,6 @@ use Rattle.header_match.specs.declared.rule.TextTest.TheVariants as text
 use Rattle.proto_route.specs.declared.header_matcher.RawHeaderMatcher.{RawHeaderMatcher}
 use Rattle.proto_route.specs.declared.header_matcher.RawHeaderMatcherOne.{RawHeaderMatcherOne}
 use Rattle.proto_route.specs.declared.header_matcher.RawHeaderMatcherOne.TheVariants.{ExactMatch, RangeMatch, PresentMatch, PrefixMatch, SuffixMatch, SafeRegexMatch, ContainsMatch, StringMatch}
-use Rattle.proto_route.specs.declared.string_matcher.RawStringMatcher.{RawStringMatcher}
 use Rattle.proto_route.specs.declared.string_matcher.RawStringMatcherOne.{RawStringMatcherOne}
 use Rattle.proto_route.specs.declared.string_matcher.RawStringMatcherOne.TheVariants.{Exact, Prefix, Suffix, SafeRegex, Contains}
 use Rattle.check_steps.specs.declared.check_fault.Stop.{Stop}

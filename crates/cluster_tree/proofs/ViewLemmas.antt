@@ -1,9 +1,9 @@
 -- What is seen of clusters, block by block.
-use Rattle.std.proofs.Common.{◌≡◌, ◌<◌, ◌≤◌, ◌+◌, ◌-◌, ◌*◌, ◌/◌, ◌%◌, ◌++◌, ℕ, Bool, false, List, [], ◌∷◌, length, map, min, take, drop, get_or, Option, Some, None, refl, sym, ap, subst, ◌∙◌, arith}
+use Rattle.std.proofs.Common.{◌≡◌, ◌<◌, ◌≤◌, ◌+◌, ◌-◌, ◌*◌, ◌%◌, ◌++◌, ℕ, Bool, false, List, [], ◌∷◌, length, min, take, drop, get_or, Option, Some, None, sym, ap, subst, ◌∙◌, arith}
 use Rattle.std.specs.Prelude.{slice_get, IfSome, Result}
-use Rattle.std.proofs.Math.Nat.{div-add-mod, mul-mod_right}
+use Rattle.std.proofs.Math.Nat.{mul-mod_right}
 use Rattle.std.proofs.Math.Seq.{take-add}
-use Rattle.std.proofs.lemmas.List.{get_or-map, get_or_default, length-drop, length-map, length-take, length-take-le, map-append, same_lists, take_all, take_min, take_rest}
+use Rattle.std.proofs.lemmas.List.{get_or-map, length-drop, length-map, length-take, length-take-le, map-append, same_lists, take_min, take_rest}
 use Rattle.std.proofs.lemmas.Option.{get_or_from_slice_get, slice_get-get_or}
 use Rattle.xc_base.specs.declared.reason.Reason.{Reason}
 use Rattle.tree_steps.specs.declared.tree_view.TreeView.{TreeView}

@@ -1,6 +1,6 @@
 -- Keys in lists, and what is watched.
 use Rattle.std.proofs.Common.{◌≡◌, ◌⊎◌, inl, inr, ℕ, ◌+◌, ◌<◌, refl, sym, ap, ◌∙◌, List, [], ◌∷◌, ◌++◌, length, get_or, take, Bool, true, false, ◌||◌, Option, Some, None}
-use Rattle.std.specs.Prelude.{◌&&◌, not, if◌then◌else◌, IsSome, is_some, option_map}
+use Rattle.std.specs.Prelude.{◌&&◌, not, if◌then◌else◌, IsSome}
 use Rattle.std.specs.List.{list_any}
 use Rattle.std.specs.BTreeSet.{insert_key}
 use Rattle.std.specs.Ordering.{is_eq}
@@ -10,7 +10,7 @@ use Rattle.std.proofs.lemmas.List.Folds.{list_any-append}
 use Rattle.xc_base.specs.declared.names.Key.{Key}
 use Rattle.xc_keys.specs.Keys.{key_cmp, is_key}
 use Rattle.xc_keys.proofs.KeyLemmas.{derived_cmp, derived_is, same_key, is_key_equiv, exact_keys}
-use Rattle.xds_cache.specs.KeptFates.{Changes, Watched, known_of, watched}
+use Rattle.xds_cache.specs.KeptFates.{Watched, known_of, watched}
 use Rattle.xds_cache.specs.declared.fate.Known.{Known}
 use Rattle.config_assembly.specs.Orders.{sorted}
 use Rattle.config_assembly.specs.Watching.{has_key, IsKept, IsWatching}

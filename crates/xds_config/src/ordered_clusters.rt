@@ -42,6 +42,7 @@ impl Clusters {
         requires { map (λ c. c.name) items ≡ take (length items) (map (λ c. c.name) self.now) }
         ensures { result ≡ items }
     {
+        // It is read, since what the type promises is known of what is read alone.
         let _ = &self.items;
         Clusters { items }
     }

@@ -1,4 +1,4 @@
-use Rattle.std.proofs.Common.{◌≡◌, drop, Ok}
+use Rattle.std.proofs.Common.{Ok}
 use Rattle.check_steps.specs.Asking.{AsksUntil}
 use Rattle.check_routes.specs.HeaderTable.{header_rule}
 use Rattle.check_steps.proofs.LoopLemmas.{IsUnderWay}

@@ -1,4 +1,4 @@
-use Rattle.std.proofs.Common.{arith, rules}
+use Rattle.std.proofs.Common.{arith}
 use Rattle.check_routes.proofs.SplitLemmas.{all_weights, too_much}
 use Rattle.check_routes.proofs.route_check.can_be_chosen.Goals as goal
 

@@ -1,4 +1,4 @@
-use Rattle.std.proofs.Common.{◌≡◌, ◌*◌, List, take, drop, ap, ◌∙◌}
+use Rattle.std.proofs.Common.{ap, ◌∙◌}
 use Rattle.cluster_tree.specs.StandingTrees.{views_of}
 use Rattle.cluster_tree.proofs.ViewLemmas.{block_more, block_most, block_some, part_stays, whole_so_far}
 use Rattle.cluster_tree.proofs.cluster_views.views_after.Goals as goal
