@@ -21,12 +21,12 @@ fn trees_take_a_configuration_and_reports(rt: HostRuntime) -> Result<(), Fail> {
     reports.insert(address(rt.alloc(), "10.0.0.1:80")?, State::Ready)?;
     let mut trees = Trees::new(rt.alloc());
     let first = trees.update(&config, &reports, Time(0), &[], &[true])?;
-    assert!(rt; is_absent(&first.seen) && first.seen.changed.iter().all(|changed| *changed));
-    assert!(rt; first.anew.iter().all(|anew| *anew));
+    assert!(rt; is_absent(&first.seen) && first.seen.changed.is_marked(0));
+    assert!(rt; first.anew.is_marked(0));
     let second = trees.update_states(&reports, Time(1), &[])?;
-    assert!(rt; is_absent(&second) && second.changed.iter().all(|changed| !*changed));
+    assert!(rt; is_absent(&second) && second.changed.are_none());
     let third = trees.update(&config, &reports, Time(2), &[], &[true])?;
-    assert!(rt; is_absent(&third.seen) && third.anew.iter().all(|anew| !*anew));
+    assert!(rt; is_absent(&third.seen) && third.anew.are_none());
     assert!(rt; trees.localities(0)?.is_empty());
     Ok(())
 }

@@ -50,7 +50,7 @@ pub record IsSeen (s : Setting) (event : DriverEvent) (past : List Entry) (confi
   -- whether what stands differs from what stood before
   pub differs_is : IsChangeMark seen.differs (stands_now past (pages s past)) (config, seen.views)
   -- a cluster without a mark is the one that stood at its place before, and what is seen of it and served by it stays
-  pub marks_are : StayInPlace seen.marks.items event past (pages s past) config
+  pub marks_are : StayInPlace seen.marks event past (pages s past) config
   pub names_stay : seen.is_renamed ≡ false → cluster_names (config_now (pages s past)) ≡ cluster_names (Some config)
 
 -- something is seen exactly where there is a configuration
@@ -88,7 +88,7 @@ pub record IsPublication (s : Setting) (event : DriverEvent) (past : List Entry)
   pub views_are : p.views ≡ views_after event past (pages s past) p.config
   pub pickable : ArePickable p.views
   -- a cluster without a mark is the one that stood at its place before, and what is seen of it and served by it stays
-  pub marks_are : StayInPlace p.marks.items event past (pages s past) p.config
+  pub marks_are : StayInPlace p.marks event past (pages s past) p.config
   pub names_stay : p.is_renamed ≡ false → cluster_names (config_now (pages s past)) ≡ cluster_names (Some p.config)
 
 -- a snapshot is published exactly where one is due

@@ -23,6 +23,7 @@ use book_trees::ReportedTrees;
 use book_trees::due_numbers::{differs, due_number};
 use call_journal::DriverEvent;
 use cluster_tree::FollowedViews;
+use place_marks::Marks;
 use tree_steps::TreeView;
 use xc_base::{Memory, Reason, Same, Shared};
 use xds_config::{ClusterEntry, Config};
@@ -45,7 +46,7 @@ pub struct Seen {
     pub differs: bool,
     /// For each cluster, whether it may be another one than stood at its place before, or whether something else may be seen
     /// of it or served by it.
-    pub marks: Vec<bool>,
+    pub marks: Marks,
     /// Whether clusters of other names may stand at the places than before.
     pub is_renamed: bool,
 }
@@ -61,7 +62,7 @@ pub struct Published {
     pub views: BlockList<Result<Shared<TreeView>, Reason>>,
     /// For each cluster, whether it may be another one than stood at its place before, or whether something else may be seen
     /// of it or served by it.
-    pub marks: Vec<bool>,
+    pub marks: Marks,
     /// Whether clusters of other names may stand at the places than before.
     pub is_renamed: bool,
 }
@@ -134,29 +135,45 @@ fn news(
     Some(new)
 }
 
-/// Whether clusters stand for the same names, place by place.
-fn have_same_names(entries: &[Shared<ClusterEntry>], others: &[Shared<ClusterEntry>]) -> bool
+/// Whether two clusters have the same name, where their entries may be others.
+fn has_same_name(entry: &ClusterEntry, other: &ClusterEntry, may_differ: bool) -> bool
+    requires { may_differ ≡ false → entry.now ≡ other.now }
+    ensures { result ≡ true → entry.now.name ≡ other.now.name }
+{
+    !may_differ || entry.name.same(&other.name)
+}
+
+/// Whether clusters stand for the same names, place by place, where an entry without a mark is the one that stood at its place.
+fn have_same_names(
+    entries: &[Shared<ClusterEntry>],
+    others: &[Shared<ClusterEntry>],
+    marks: &[bool],
+) -> bool
+    requires count { length marks.now ≡ length others.now }
+    requires unmarked { AreSameBut marks.now entries.now others.now }
     ensures { result ≡ true → map (λ e. e.name) entries.now ≡ map (λ e. e.name) others.now }
 {
     if entries.len() != others.len() {
         return false;
     }
     for place in 0..entries.len() {
-        if !entries[place].get().name.same(&others[place].get().name) {
+        if !has_same_name(entries[place].get(), others[place].get(), marks[place]) {
             return false;
         }
     }
     true
 }
 
-/// Whether clusters of other names may stand at the places of a configuration than at those of the one from before.
-fn is_renamed(before: &Option<Shared<Config>>, config: &Config) -> bool
+/// Whether clusters of other names may stand at the places of a configuration than at those of the one from before, in which
+/// each entry without a mark is.
+fn is_renamed(before: &Option<Shared<Config>>, config: &Config, marks: &[bool]) -> bool
+    requires { StandAsShown marks.now before.now config.now }
     ensures { result ≡ false → cluster_names before.now ≡ cluster_names (Some config.now) }
 {
     match before {
         Some(before) => {
             let entries = before.get().clusters.as_slice();
-            !have_same_names(entries, config.clusters.as_slice())
+            !have_same_names(entries, config.clusters.as_slice(), marks)
         }
         None => true,
     }
@@ -203,13 +220,14 @@ impl ConfiguredTrees {
     ) -> Result<Seen, Memory>
         requires lawful { IsLawfulConfig config }
         requires others { EntriesStay others.now self.old.trees.trees.clusters config.clusters }
+        requires shown { StandAsShown others.now self.old.config config }
         requires changes { ChangesAt (reported_in event.now) self.old.trees.reports.entries self.old.trees.trees }
         ensures seen { IfOk result (λ seen. (s : Setting) (past : List EntryValue) → AreConfiguredWith s event.now past self.old → (self.old.config ≡ Some config → ⊥) → IsSeen s event.now past config seen) }
         ensures config { OnOk result (self.new.config ≡ Some config) }
         ensures kept { OnOk result ((s : Setting) (past : List EntryValue) (line : ℕ) (reply : DriverReply) (page : Page) → AreConfiguredWith s event.now past self.old → IsPageOf event.now past (pages s past) (Some config) page → AreTreesAt (driven 0 line event.now reply ∷ past) (page ∷ pages s past) self.new.trees) }
     {
         let FollowedViews { seen, anew } = self.trees.follow(event, &config, others)?;
-        let is_renamed = is_renamed(&self.config, config.get());
+        let is_renamed = is_renamed(&self.config, config.get(), others);
         self.config = Some(config);
         Ok(Seen {
             views: seen.views,

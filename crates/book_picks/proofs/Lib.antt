@@ -4,5 +4,6 @@ pub mod ServedLemmas
 pub mod RowLemmas
 pub mod TakenLemmas
 pub mod ShownKeys
+pub mod MarkedPlaces
 pub mod RenewedLemmas
 pub mod ServingLemmas

@@ -51,6 +51,7 @@ use Rattle.book_picks.specs.RenewedRows.{AreMarksOf, AreRenewed, IsPublishedAt, 
 use Rattle.book_picks.specs.TurnsLaws.{CallersLeaveTurns, DriversLeaveTurns}
 use Rattle.book_picks.proofs.CountedLemmas.{extends_not, extends_on}
 use Rattle.book_picks.proofs.IndexLemmas.{indexes_stay}
+use Rattle.book_picks.proofs.MarkedPlaces.{AreMarkedPlaces, place_in_turn, turn_rises, unmarked_between, unmarked_till}
 use Rattle.book_picks.proofs.ShownKeys.{keys_served, keys_stay}
 use Rattle.book_picks.proofs.TakenLemmas.{at_caller, still}
 
@@ -136,20 +137,33 @@ renewed_all i forest snapshot marks old new all renewed = record {
   extends = renewed.extends;
 }
 
--- one cluster on that isn't marked
-pub renewed_past : (i : ℕ) (forest : Forest) (snapshot : Snapshot) (marks : List Bool) (old new : Turns) → get_or marks i false ≡ false → AreRenewedTo i forest snapshot marks old new → AreRenewedTo (i + 1) forest snapshot marks old new
-renewed_past i forest snapshot marks old new unmarked renewed = record {
-  fresh = λ place entry less is mark. by_place place entry is mark (place == i) refl less;
-  kept = λ place entry keys not_due is. renewed.kept place entry keys (λ less mark. let more : place < i + 1 = omega arith in not_due more mark) is;
+-- on to a later cluster, where none from the one to the other is marked
+pub renewed_on : (i j : ℕ) (forest : Forest) (snapshot : Snapshot) (marks : List Bool) (old new : Turns) → i ≤ j → ((place : ℕ) → i ≤ place → place < j → get_or marks place false ≡ false) → AreRenewedTo i forest snapshot marks old new →
+    AreRenewedTo j forest snapshot marks old new
+renewed_on i j forest snapshot marks old new le unmarked renewed = record {
+  fresh = λ place entry less is mark. by_place place entry is mark (cases_lt place i) less;
+  kept = λ place entry keys not_due is. renewed.kept place entry keys (λ less mark. let more : place < j = omega arith in not_due more mark) is;
   others = renewed.others;
   extends = renewed.extends;
 }
   where
-    by_place : (place : ℕ) (entry : ClusterEntry) → slice_get snapshot.config.clusters place ≡ Some entry → get_or marks place false ≡ true → (b : Bool) → (place == i) ≡ b → place < i + 1 → HasRow new entry.name place (keys_at forest snapshot place entry.name)
-    by_place place entry is mark true same less = let e : get_or marks i false ≡ true = ap (λ p. get_or marks p false) (sym (eqb-true place i same)) ∙ mark in absurd (cc)
-    by_place place entry is mark false other less =
-        let apart : place ≢ i = λ e. let yes = eq-eqb place i e in cc in
-        let before : place < i = omega arith in renewed.fresh place entry before is mark
+    by_place : (place : ℕ) (entry : ClusterEntry) → slice_get snapshot.config.clusters place ≡ Some entry → get_or marks place false ≡ true → (place < i) ⊎ (i ≤ place) → place < j → HasRow new entry.name place (keys_at forest snapshot place entry.name)
+    by_place place entry is mark (inl before) less = renewed.fresh place entry before is mark
+    by_place place entry is mark (inr not_before) less = let clash : false ≡ true = sym (unmarked place not_before less) ∙ mark in absurd (cc)
+
+-- as far as the first marked cluster, and from the one whose row was made to the next marked one
+pub renewed_first : (places : List ℕ) (forest : Forest) (snapshot : Snapshot) (marks : List Bool) (turns : Turns) → AreMarkedPlaces marks (length snapshot.config.clusters) places →
+    AreRenewedTo (place_in_turn places (length snapshot.config.clusters) 0) forest snapshot marks turns turns
+renewed_first places forest snapshot marks turns are =
+    let count : ℕ = length snapshot.config.clusters in
+    renewed_on 0 (place_in_turn places count 0) forest snapshot marks turns turns (omega arith) (λ place le less. unmarked_till marks count places are 0 place (λ i had there. absurd (omega (arith, had))) less) (renewed_none forest snapshot marks turns)
+
+pub renewed_next : (places : List ℕ) (turn place : ℕ) (forest : Forest) (snapshot : Snapshot) (marks : List Bool) (old new : Turns) → AreMarkedPlaces marks (length snapshot.config.clusters) places → turn < length places → place ≡ place_in_turn places (length snapshot.config.clusters) turn →
+    AreRenewedTo (place + 1) forest snapshot marks old new → AreRenewedTo (place_in_turn places (length snapshot.config.clusters) (turn + 1)) forest snapshot marks old new
+renewed_next places turn place forest snapshot marks old new are lt is renewed =
+    let count : ℕ = length snapshot.config.clusters in
+    renewed_on (place + 1) (place_in_turn places count (turn + 1)) forest snapshot marks old new (omega (arith, is, turn_rises marks count places are turn lt))
+    (λ other le less. unmarked_between marks count places are turn other lt (omega (arith, is, le)) less) renewed
 
 -- one that is marked, whose row is put in
 module _ (i : ℕ) (forest : Forest) (snapshot : Snapshot) (marks : List Bool) (old mid new : Turns) (own : ClusterEntry) (lawful : IsLawfulConfig snapshot.config) (at : slice_get snapshot.config.clusters i ≡ Some own)

@@ -15,6 +15,7 @@ ghost use Rattle.book_picks.specs.RenewedRows.{AreMarksOf, AreRenewed, IsPublish
 use crate::cluster_rows::{Row, indexes_of};
 use crate::kept_turns::Turns;
 use cluster_tree::{NamedChild, Snapshot, TreeView, Trees};
+use place_marks::Marks;
 use std::collections::BTreeMap;
 use xc_base::{Memory, Reason, Shared, Text};
 
@@ -40,7 +41,7 @@ impl Turns {
         &mut self,
         trees: &Trees,
         snapshot: &Snapshot,
-        marks: &[bool],
+        marks: &Marks,
         is_renamed: bool,
     ) -> Result<(), Memory>
         requires lawful { IsLawfulConfig snapshot.now.config }
@@ -63,17 +64,17 @@ impl Turns {
         ensures { OnOk result ((s : Setting) (past : List EntryValue) (e : EntryValue) → AreTurnsAt (pages s past) self.old → IsPublishedAt s past e snapshot.now → ServesLocalities trees.entry.now snapshot.now.config (trees_now (pages s (e ∷ past))) → AreTurnsAt (pages s (e ∷ past)) self.new) }
     {
         self.rows = BTreeMap::new(self.alloc);
-        let marks = vec![in self.alloc; true; snapshot.config.get().clusters.len()]?;
+        let marks = Marks::all(self.alloc, snapshot.config.get().clusters.len())?;
         self.renew_rows(trees, snapshot, &marks)?;
         Ok(())
     }
 
-    /// Makes the rows of the clusters that are marked anew, and leaves the others.
+    /// Makes the rows of the clusters that are marked anew, and leaves the others. It looks at no place that isn't marked.
     fn renew_rows(
         &mut self,
         trees: &Trees,
         snapshot: &Snapshot,
-        marks: &[bool],
+        marks: &Marks,
     ) -> Result<(), Memory>
         requires lawful { IsLawfulConfig snapshot.now.config }
         requires views { length snapshot.now.trees ≡ length snapshot.now.config.clusters }
@@ -81,11 +82,9 @@ impl Turns {
         ensures { OnOk result (AreRenewed trees.entry.now snapshot.now marks.now self.old self.new) }
     {
         let entries = snapshot.config.get().clusters.as_slice();
-        for place in 0..entries.len() {
-            if marks[place] {
-                let name = &entries[place].get().name;
-                self.renew_row(trees, place as u32, name, snapshot.trees.at(place))?;
-            }
+        for place in marks.places() {
+            let name = &entries[*place as usize].get().name;
+            self.renew_row(trees, *place, name, snapshot.trees.at(*place as usize))?;
         }
         Ok(())
     }

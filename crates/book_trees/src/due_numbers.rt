@@ -1,6 +1,5 @@
 //! The numbers of snapshots.
 ghost use Rattle.std.specs.Prelude.{◌≡◌, ◌<◌, ◌+◌, ◌^◌, Some, List, IfSome};
-ghost use Rattle.std.specs.List.{list_any};
 ghost use Rattle.call_journal.specs.declared.entry.Entry.{Entry};
 ghost use Rattle.cluster_tree.specs.ViewChanges.{IsChangeMark};
 ghost use Rattle.xds_history.specs.declared.page.Page.{Page};
@@ -8,18 +7,13 @@ ghost use Rattle.xds_history.specs.Page.{latest as latest_snapshot, latest_numbe
 ghost use Rattle.xds_history.specs.Right.{IsNumber, Shown};
 ghost use Rattle.book_trees.specs.ReportedLaws.{ShowsWhatStands, any_differs, next_number, stands_now};
 
-/// Whether a view differs from before.
-fn any_changed(changed: &[bool]) -> bool
-    ensures { result ≡ list_any (λ mark. mark) changed.now }
-{
-    changed.iter().any(|mark| *mark)
-}
+use place_marks::Marks;
 
 /// Whether the configuration or a view differs from before.
-pub fn differs(config: bool, changed: &[bool]) -> bool
+pub fn differs(config: bool, changed: &Marks) -> bool
     ensures { result ≡ any_differs config changed.now }
 {
-    config || any_changed(changed)
+    config || !changed.are_none()
 }
 
 /// The number of the snapshot that is due where something stands, by the number of the latest one and whether what stands

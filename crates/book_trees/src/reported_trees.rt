@@ -97,8 +97,8 @@ impl ReportedTrees {
         requires changes { ChangesAt (reported_in event.now) self.old.reports.entries self.old.trees }
         requires others { EntriesStay others.now self.old.trees.clusters config.now.clusters }
         ensures views { IfOk result (λ followed. (past : List Entry) (ps : List Page) → AreTreesWith event.now past ps self.old → followed.seen.views ≡ views_after event.now past ps config.now) }
-        ensures changed { IfOk result (λ followed. (past : List Entry) (ps : List Page) → AreTreesWith event.now past ps self.old → AreMarked followed.seen.changed.items past ps config.now followed.seen.views) }
-        ensures still { IfOk result (λ followed. (past : List Entry) (ps : List Page) → AreTreesWith event.now past ps self.old → StayInPlace followed.anew.items event.now past ps config.now) }
+        ensures changed { IfOk result (λ followed. (past : List Entry) (ps : List Page) → AreTreesWith event.now past ps self.old → AreMarked followed.seen.changed past ps config.now followed.seen.views) }
+        ensures still { IfOk result (λ followed. (past : List Entry) (ps : List Page) → AreTreesWith event.now past ps self.old → StayInPlace followed.anew event.now past ps config.now) }
         ensures pickable { IfOk result (λ followed. ArePickable followed.seen.views) }
         ensures kept { OnOk result ((past : List Entry) (ps : List Page) (actor line : ℕ) (reply : DriverReply) (page : Page) → AreTreesWith event.now past ps self.old → IsPageOf event.now past ps (Some config.now) page → AreTreesAt (driven actor line event.now reply ∷ past) (page ∷ ps) self.new) }
     {
@@ -114,8 +114,8 @@ impl ReportedTrees {
     pub fn stay(&mut self, event: &DriverEvent) -> Result<UpdatedViews, Memory>
         requires { ChangesAt (reported_in event.now) self.old.reports.entries self.old.trees }
         ensures views { IfOk result (λ seen. (past : List Entry) (ps : List Page) (config : ConfigValue) → AreTreesWith event.now past ps self.old → config_now ps ≡ Some config → seen.views ≡ views_after event.now past ps config) }
-        ensures changed { IfOk result (λ seen. (past : List Entry) (ps : List Page) (config : ConfigValue) → AreTreesWith event.now past ps self.old → config_now ps ≡ Some config → AreMarked seen.changed.items past ps config seen.views) }
-        ensures still { IfOk result (λ seen. (past : List Entry) (ps : List Page) (config : ConfigValue) → AreTreesWith event.now past ps self.old → config_now ps ≡ Some config → StayInPlace seen.changed.items event.now past ps config) }
+        ensures changed { IfOk result (λ seen. (past : List Entry) (ps : List Page) (config : ConfigValue) → AreTreesWith event.now past ps self.old → config_now ps ≡ Some config → AreMarked seen.changed past ps config seen.views) }
+        ensures still { IfOk result (λ seen. (past : List Entry) (ps : List Page) (config : ConfigValue) → AreTreesWith event.now past ps self.old → config_now ps ≡ Some config → StayInPlace seen.changed event.now past ps config) }
         ensures pickable { IfOk result (λ seen. ArePickable seen.views) }
         ensures kept { OnOk result ((past : List Entry) (ps : List Page) (config : ConfigValue) (actor line : ℕ) (reply : DriverReply) (page : Page) → AreTreesWith event.now past ps self.old → config_now ps ≡ Some config → IsPageOf event.now past ps (Some config) page → AreTreesAt (driven actor line event.now reply ∷ past) (page ∷ ps) self.new) }
     {

@@ -1,15 +1,15 @@
 -- Which of what is seen differs from before.
-use Rattle.std.proofs.Common.{◌≡◌, ◌<◌, ◌≤◌, ◌+◌, ℕ, Bool, true, false, List, [], ◌∷◌, ◌++◌, length, get_or, set, replicate, Option, Some, None, Result, Ok, Err, ◌⊎◌, inl, inr, refl, sym, ap, ◌∙◌, subst, arith}
+use Rattle.std.proofs.Common.{◌≡◌, ◌<◌, ◌≤◌, ◌+◌, ℕ, Bool, true, false, List, [], ◌∷◌, ◌++◌, length, get_or, set, Option, Some, None, Result, Ok, Err, ◌⊎◌, inl, inr, refl, sym, ap, ◌∙◌, subst, arith}
 use Rattle.std.specs.Prelude.{◌↔◌, not, IsTrue, option_map}
 use Rattle.std.specs.Option.{option_and_then}
-use Rattle.std.proofs.lemmas.Bool.{cases_eq, cases_lt}
-use Rattle.std.proofs.lemmas.List.{length_push, length-set, length-replicate, get_or_default, get_or_push, get_or_append_left, get_or-replicate, get_or-set_same, get_or-set_other}
+use Rattle.std.proofs.lemmas.Bool.{cases_lt}
+use Rattle.std.proofs.lemmas.List.{length_push, get_or_push, get_or_append_left, set-get_or}
 use Rattle.xc_base.specs.declared.reason.Reason.{Reason}
 use Rattle.tree_steps.specs.declared.tree_view.TreeView.{TreeView}
 use Rattle.cluster_tree.specs.declared.cluster_trees.Cluster.{Cluster}
 use Rattle.cluster_tree.specs.declared.cluster_trees.Standing.{Standing}
 use Rattle.cluster_tree.specs.StandingTrees.{view_in}
-use Rattle.cluster_tree.specs.ViewChanges.{seen_of, seen_named, tree_view_in, tree_view_of, IsChangeMark, MarkChanges, MarkChangesInPlace}
+use Rattle.cluster_tree.specs.ViewChanges.{seen_of, seen_named, tree_view_in, tree_view_of, IsChangeMark, MarkChanges}
 
 -- a mark from a comparison
 pub mark_by : {A : Type 0} (same : Bool) (before : Option A) (now : A) → (IsTrue same ↔ (before ≡ Some now)) → IsChangeMark (not same) before now
@@ -92,35 +92,6 @@ still_mark cluster = record {
   differs = λ on. (let clash : false ≡ true = on in absurd (cc));
 }
 
--- no cluster has taken the update yet
-pub marks_start : (old : List Cluster) (marks : List Bool) (n : ℕ) → n ≡ length old → marks ≡ replicate n false → MarkChangesInPlace marks old old
-marks_start old marks n long are =
-    subst (λ (ms : List Bool). MarkChangesInPlace ms old old) (sym are) (record {
-      count = length-replicate n false ∙ long;
-      each = λ place d lt. subst (λ (b : Bool). HasMarkIn (get_or old place d) b (get_or old place d)) (sym (get_or-replicate n place false false (rw (← long) at lt))) (still_mark (get_or old place d));
-    })
-
--- the cluster at a place took the update
-pub marks_put : (old new newer : List Cluster) (marks more : List Bool) (at : ℕ) (x cluster : Cluster) (mark : Bool) → at < length old → length new ≡ length old → x ≡ get_or old at x → MarkChangesInPlace marks old new →
-    newer ≡ set new at cluster → more ≡ set marks at mark → IsChangeMark mark (Some (seen_of x)) (seen_of cluster) → MarkChangesInPlace more old newer
-marks_put old new newer marks more at x cluster mark lt long was_x was is are here =
-    subst (λ (cs : List Cluster). MarkChangesInPlace more old cs) (sym is) (subst (λ (ms : List Bool). MarkChangesInPlace ms old (set new at cluster)) (sym are) (record {
-      count = length-set marks at mark ∙ (was.count ∙ sym (length-set new at cluster));
-      each = λ place d within. by place d within (cases_eq place at);
-    }))
-  where
-    by : (place : ℕ) (d : Cluster) → place < length (set new at cluster) → (place ≡ at) ⊎ (place ≡ at → ⊥) →
-        HasMarkIn (get_or old place d) (get_or (set marks at mark) place false) (get_or (set new at cluster) place d)
-    by place d within (inl same) =
-        let inside : at < length new = omega (arith, lt, long) in
-        let among : at < length marks = omega (arith, lt, long, was.count) in
-        let c : get_or (set new at cluster) place d ≡ cluster = ap (λ (n : ℕ). get_or (set new at cluster) n d) same ∙ get_or-set_same new at cluster d inside in
-        let m : get_or (set marks at mark) place false ≡ mark = ap (λ (n : ℕ). get_or (set marks at mark) n false) same ∙ get_or-set_same marks at mark false among in
-        let o : get_or old place d ≡ x = ap (λ (n : ℕ). get_or old n d) same ∙ (get_or_default old at d x lt ∙ sym was_x) in
-        subst (λ (y : Cluster). HasMarkIn y (get_or (set marks at mark) place false) (get_or (set new at cluster) place d)) (sym o)
-        (subst (λ (y : Cluster). HasMarkIn x (get_or (set marks at mark) place false) y) (sym c) (subst (λ (b : Bool). HasMarkIn x b cluster) (sym m) here))
-    by place d within (inr other) =
-        let c : get_or (set new at cluster) place d ≡ get_or new place d = get_or-set_other new at place cluster d other in
-        let m : get_or (set marks at mark) place false ≡ get_or marks place false = get_or-set_other marks at place mark false other in
-        subst (λ (y : Cluster). HasMarkIn (get_or old place d) (get_or (set marks at mark) place false) y) (sym c)
-        (subst (λ (b : Bool). HasMarkIn (get_or old place d) b (get_or new place d)) (sym m) (was.each place d (rw (length-set) at within)))
+-- a place behind which none is marked stays as it is, where it isn't to be marked
+pub unmarked_stays : (marks : List Bool) (at : ℕ) (mark : Bool) → ((later : ℕ) → at ≤ later → get_or marks later false ≡ false) → mark ≡ false → marks ≡ set marks at mark
+unmarked_stays marks at mark ahead off = sym (ap (set marks at) (off ∙ sym (ahead at (omega arith))) ∙ set-get_or marks at false)

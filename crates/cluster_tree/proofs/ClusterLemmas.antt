@@ -1,7 +1,8 @@
 -- Clusters that are among those that read their addresses.
 use Rattle.std.proofs.Common.{◌≡◌, ◌<◌, ◌≤◌, ◌+◌, ℕ, zero, suc, Bool, true, false, cond, List, length, take, get_or, Option, Some, None, ◌⊎◌, inl, inr, refl, sym, ap, ◌∙◌, subst, arith}
-use Rattle.std.specs.Prelude.{All, Result, Ok, Err, IfOk, IfSome}
+use Rattle.std.specs.Prelude.{◌↔◌, All, Contains, Result, Ok, Err, IfOk, IfSome}
 use Rattle.std.specs.Option.{option_and_then}
+use Rattle.std.proofs.lemmas.Bool.{cases_lt}
 use Rattle.std.proofs.lemmas.List.Elements.{All-map}
 use Rattle.xc_base.specs.declared.names.Time.{Time}
 use Rattle.xds_config.specs.declared.config.ClusterEntry.{ClusterEntry}
@@ -100,3 +101,33 @@ serving_read users place cluster follows entry serving = by cluster.state follow
         IfOk state (λ s. ReadsLeaves users place s.trees.serving.leaves.leaves)
     by (Ok s) same read = waits s s.trees.waiting refl same read
     by (Err reason) same read = tt
+
+-- ---- the clusters at some places
+
+-- something holds of the clusters at so many places in front
+abbrev pub HoldAt : (ℕ → Cluster → Type 0) → List ℕ → ℕ → List Cluster → Type 0
+HoldAt P places count clusters = (k : ℕ) (d : Cluster) → k < count → P (get_or places k 0) (get_or clusters (get_or places k 0) d)
+
+pub hold_more : (P Q : ℕ → Cluster → Type 0) (places : List ℕ) (i place : ℕ) (clusters : List Cluster) (x : Cluster) → i < length places → place ≡ get_or places i place → place < length clusters → x ≡ get_or clusters place x
+    → ((n : ℕ) (c : Cluster) → P n c → Q n c) → HoldAt P places i clusters → Q place x → HoldAt Q places (i + 1) clusters
+hold_more P Q places i place clusters x lt is within at still all here k d less = by (cases_lt k i)
+  where
+    by : (k < i) ⊎ (i ≤ k) → Q (get_or places k 0) (get_or clusters (get_or places k 0) d)
+    by (inl before) = still (get_or places k 0) (get_or clusters (get_or places k 0) d) (all k d before)
+    by (inr past) =
+        let last : k ≡ i = omega (arith, less, past) in
+        let own : place ≡ get_or places k 0 = is ∙ (get_or_default places i place 0 lt ∙ ap (λ (n : ℕ). get_or places n 0) (sym last)) in
+        subst (λ (p : ℕ). Q p (get_or clusters p d)) own (subst (λ (c : Cluster). Q place c) (at ∙ get_or_default clusters place x d within) here)
+
+-- so it holds of all, where it held of those without a mark before
+pub hold_marked : (P Q : ℕ → Cluster → Type 0) (marks : List Bool) (places : List ℕ) (count : ℕ) (clusters : List Cluster) → ((place : ℕ) → (get_or marks place false ≡ true) ↔ Contains places place) → length places ≤ count
+    → ((place : ℕ) (d : Cluster) → place < length clusters → get_or marks place false ≡ false → P place (get_or clusters place d)) → ((n : ℕ) (c : Cluster) → P n c → Q n c) → HoldAt Q places count clusters
+    → (place : ℕ) (d : Cluster) → place < length clusters → Q place (get_or clusters place d)
+hold_marked P Q marks places count clusters marked le others still all place d lt = by (get_or marks place false) refl
+  where
+    by : (mark : Bool) → get_or marks place false ≡ mark → Q place (get_or clusters place d)
+    by false off = still place (get_or clusters place d) (others place d lt off)
+    by true on =
+        let among : Contains places place = (marked place).0 on in
+        let own : get_or places among.0 0 ≡ place = get_or_default places among.0 0 place among.1 ∙ among.2 in
+        subst (λ (p : ℕ). Q p (get_or clusters p d)) own (all among.0 d (omega (arith, le, among.1)))

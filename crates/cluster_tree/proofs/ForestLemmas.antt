@@ -1,14 +1,12 @@
 -- The clusters after an update.
 use Rattle.std.proofs.lemmas.Bool.Decides.{nat_tests}
-use Rattle.std.proofs.Common.{◌≡◌, ◌<◌, ◌≤◌, ◌+◌, ◌||◌, nat_lt, ℕ, zero, suc, Bool, true, false, cond, List, [], ◌∷◌, ◌++◌, length, take, drop, map, get_or, Option, Some, None, Result, Ok, Err, ◌⊎◌, inl, inr, refl, sym, ap, ◌∙◌, subst, arith, append-nil, append_assoc, add-one, drop-cons}
-use Rattle.std.specs.Prelude.{All, AllPairs, Contains, IfOk, IfSome, bytes_eq, find, set, not}
+use Rattle.std.proofs.Common.{◌≡◌, ◌<◌, ◌≤◌, ◌+◌, ◌||◌, nat_lt, ℕ, zero, suc, Bool, true, false, cond, List, [], ◌∷◌, ◌++◌, length, take, map, get_or, Option, Some, None, Result, Ok, Err, ◌⊎◌, inl, inr, refl, sym, ap, ◌∙◌, subst, arith}
+use Rattle.std.specs.Prelude.{All, AllPairs, Contains, IfOk, IfSome, bytes_eq, find, not}
 use Rattle.std.specs.Option.{option_and_then}
 use Rattle.std.specs.Ordering.{is_eq}
 use Rattle.std.proofs.lemmas.Map.Text.{is_eq-slice_cmp}
 use Rattle.std.proofs.lemmas.Slice.Eq.{bytes_eq-Decides}
-use Rattle.std.proofs.lemmas.List.{length-map, get_or-map, map-append, take_more, length-take-le, take_all, get_or_default}
-use Rattle.std.proofs.Math.Seq.{set-append_seam, get_or-append_seam}
-use Rattle.std.proofs.Math.ListN.{drop_of_length-le}
+use Rattle.std.proofs.lemmas.List.{length-map, get_or-map, map-append, take_more}
 use Rattle.xc_base.specs.declared.names.Time.{Time}
 use Rattle.xc_base.specs.declared.reason.Reason.{Reason}
 use Rattle.xds_config.specs.declared.config.Leaf.{Leaf}
@@ -21,7 +19,7 @@ use Rattle.cluster_tree.specs.declared.cluster_trees.Standing.{Standing}
 use Rattle.tree_steps.specs.declared.tree_view.TreeView.{TreeView}
 use Rattle.tree_steps.specs.Reports.{Reports, state_in}
 use Rattle.tree_steps.specs.TreeSteps.{TreeFacts, followed, stayed, state_of, has_kind, trees_after}
-use Rattle.tree_steps.specs.Quiet.{is_quiet, stand_at}
+use Rattle.tree_steps.specs.TreeEnds.{trees_end}
 use Rattle.cluster_tree.specs.StandingTrees.{trees_in, trees_of, cluster_named, standing, state_after, cluster_after, clusters_after, entries_of, view_in, views_of, DifferAt, stands_in}
 use Rattle.tree_steps.specs.Users.{UserList, users_at, ReadsLeaves, IsSoundTree, MarksUsers}
 use Rattle.cluster_tree.specs.ClusterUsers.{IsSound, AreRead, AreRising, AreIndexed, OthersStay, AreStepped}
@@ -31,7 +29,7 @@ use Rattle.weighted_lb.specs.Pick.{IsPickable}
 use Rattle.std.proofs.lemmas.List.Elements.{All-map}
 use Rattle.tree_steps.proofs.PickLemmas.{tree_pickable}
 use Rattle.tree_steps.proofs.NameLemmas.{each_once}
-use Rattle.tree_steps.proofs.QuietLemmas.{quiet_stand}
+use Rattle.tree_steps.proofs.QuietLemmas.{stand_before}
 use Rattle.tree_steps.proofs.StayLemmas.{trees_stay, view_stays}
 
 map_map : {A B C : Type 0} (g : B → C) (f : A → B) (xs : List A) → map g (map f xs) ≡ map (λ x. g (f x)) xs
@@ -183,23 +181,22 @@ indexed_stepped users now r old new indexed stepped =
 pub all_lawful : (users : UserList) (clusters : List Cluster) → AreIndexed users clusters → All (λ c. IfOk c.entry.state AreLawfulLeaves) clusters
 all_lawful users clusters indexed = λ k d lt. first_holds AreLawfulLeaves (λ (L : Leaves). ReadsLeaves users k L.leaves) (get_or clusters k d).entry.state (indexed.sound k d lt).0
 
--- ---- a cluster without a mark
+-- ---- a cluster that nothing touches
 
 agree_on : (users : UserList) (place : ℕ) (r s : Reports) (leaves : List Leaf) → ReadsLeaves users place leaves → ((a : List ℕ) → Contains (users_at users a) place → state_in s a ≡ state_in r a) → AgreeOn r s leaves
 agree_on users place r s leaves reads agree = λ i d lt j e within k a inside. agree _ (reads i d lt j e within k a inside)
 
-stands_if : (quiet stands : Bool) → (quiet ≡ true → stands ≡ true) → (quiet || stands) ≡ true → stands ≡ true
-stands_if true stands by on = by refl
-stands_if false stands by on = on
+before_end : (now : Time) (end : ℕ) → nat_lt now.0 end ≡ true → now.0 < end
+before_end now end on = grind (arith, nat_tests)
 
 ok_stays : (users : UserList) (place : ℕ) (last now : Time) (r s : Reports) (L : Leaves) (old : Option (Pair TreeFacts)) → last.0 ≤ now.0 → ((a : List ℕ) → Contains (users_at users a) place → state_in s a ≡ state_in r a) →
-    IsSoundTree users place L → IsSoundTree users place (trees_after last r L old).serving.leaves → (is_quiet (trees_after last r L old) || stand_at now (trees_after last r L old)) ≡ true →
+    IsSoundTree users place L → IsSoundTree users place (trees_after last r L old).serving.leaves → nat_lt now.0 (trees_end (trees_after last r L old)) ≡ true →
     standing s (trees_after now s L (Some (trees_after last r L old))) ≡ standing r (trees_after last r L old)
 ok_stays users place last now r s L old le agree here served on =
     let ts : Pair TreeFacts = trees_after last r L old in
     let other = agree_on users place r s ts.serving.leaves.leaves served.1 agree in
-    let stay = trees_stay last now r s L old le (agree_on users place r s L.leaves here.1 agree) other (each_once L here.0) (each_once ts.serving.leaves served.0) (stands_if (is_quiet ts) (stand_at now ts) (quiet_stand now ts) on) in
-    let make : TreeView → Standing = λ v. record { trees = ts; view = v; quiet = is_quiet ts } in
+    let stay = trees_stay last now r s L old le (agree_on users place r s L.leaves here.1 agree) other (each_once L here.0) (each_once ts.serving.leaves served.0) (stand_before now ts (before_end now (trees_end ts) on)) in
+    let make : TreeView → Standing = λ v. record { trees = ts; view = v; until = record { 0 = trees_end ts } } in
     ap (λ (x : Pair TreeFacts). standing s x) stay ∙ ap make (view_stays r s ts other)
 
 state_stays : (users : UserList) (place : ℕ) (last now : Time) (r s : Reports) (state : Result Leaves Reason) (old : Option (Pair TreeFacts)) (here : Result Standing Reason) → last.0 ≤ now.0 →
@@ -213,9 +210,11 @@ state_stays users place last now r s (Ok L) old here le agree is sound served on
     subst (λ (x : Result Standing Reason). state_after now s (Ok L) (trees_in x) ≡ x) (sym is) stays
 state_stays users place last now r s (Err reason) old here le agree is sound served on = sym is
 
-pub others_stay : (users : UserList) (changed : List (List ℕ)) (marks : List Bool) (last now : Time) (r s : Reports) (clusters before : List Cluster) → AreIndexed users clusters → MarksUsers users changed marks → length marks ≡ length clusters →
-    clusters ≡ clusters_after last r (entries_of clusters) before → DifferAt changed r s → OthersStay last now s marks clusters
-others_stay users changed marks last now r s clusters before indexed marked long is differ = λ place d lt unmarked on le.
+-- a cluster that reads no address whose state differs, and of which no timer has ended
+pub unread_stays : (users : UserList) (changed : List (List ℕ)) (last now : Time) (r s : Reports) (clusters before : List Cluster) → AreIndexed users clusters → clusters ≡ clusters_after last r (entries_of clusters) before → DifferAt changed r s →
+    (place : ℕ) (d : Cluster) → place < length clusters → ((a : List ℕ) → Contains changed a → Contains (users_at users a) place → ⊥) → stands_in now (get_or clusters place d).state ≡ true → last.0 ≤ now.0 →
+    cluster_after now s (get_or clusters place d).entry (Some (get_or clusters place d)) ≡ get_or clusters place d
+unread_stays users changed last now r s clusters before indexed is differ place d lt unread on le =
     let c : Cluster = get_or clusters place d in
     let entries : List ClusterEntry = entries_of clusters in
     let g : ClusterEntry → Cluster = after_entry last r before in
@@ -223,74 +222,17 @@ others_stay users changed marks last now r s clusters before indexed marked long
     let made : c ≡ g c.entry =
     ap (λ (cs : List Cluster). get_or cs place d) is ∙ (get_or-map g entries place d.entry d within ∙ ap g (get_or-map (λ (x : Cluster). x.entry) clusters place d d.entry lt)) in
     let sound = indexed.sound place d lt in
-    let never : (a : List ℕ) → Contains (users_at users a) place → Contains changed a → ⊥ =
-    λ a reads has. (let clash : true ≡ false = sym (marked a place has reads (omega (arith, long, lt))) ∙ unmarked in cc) in
-    let agree : (a : List ℕ) → Contains (users_at users a) place → state_in s a ≡ state_in r a = λ a reads. differ a (never a reads) in
+    let agree : (a : List ℕ) → Contains (users_at users a) place → state_in s a ≡ state_in r a = λ a reads. differ a (λ has. unread a has reads) in
     let o : Option (Pair TreeFacts) = option_and_then trees_of (cluster_named c.entry.name before) in
     let stays = state_stays users place last now r s c.entry.state o c.state le agree (ap (λ (x : Cluster). x.state) made) sound.0 sound.1 on in
     let make : Result Standing Reason → Cluster = λ st. record { entry = c.entry; state = st } in
     ap make stays
 
--- ---- the loop over the clusters
-
-abbrev next_of : Time → Reports → Cluster → Cluster
-next_of now r c = cluster_after now r c.entry (Some c)
-
-abbrev mixed : Time → Reports → List Cluster → ℕ → List Cluster
-mixed now r old i = map (next_of now r) (take i old) ++ drop i old
-
-next_mixed : (now : Time) (r : Reports) (old : List Cluster) (i : ℕ) (x : Cluster) → i < length old → x ≡ get_or old i x → mixed now r old (i + 1) ≡ map (next_of now r) (take i old) ++ (next_of now r x ∷ drop (suc i) old)
-next_mixed now r old i x lt is =
-    ap (λ (xs : List Cluster). map (next_of now r) xs ++ drop (i + 1) old) (take_more old i x lt ∙ ap (λ (y : Cluster). take i old ++ y ∷ []) (sym is)) ∙
-    (ap (λ (xs : List Cluster). xs ++ drop (i + 1) old) (map-append (next_of now r) (take i old) (x ∷ [])) ∙
-    (append_assoc (map (next_of now r) (take i old)) (next_of now r x ∷ []) (drop (i + 1) old) ∙ ap (λ (n : ℕ). map (next_of now r) (take i old) ++ (next_of now r x ∷ drop n old)) (add-one i)))
-
-this_mixed : (now : Time) (r : Reports) (old : List Cluster) (i : ℕ) (x : Cluster) → i < length old → x ≡ get_or old i x → mixed now r old i ≡ map (next_of now r) (take i old) ++ (x ∷ drop (suc i) old)
-this_mixed now r old i x lt is = ap (λ (xs : List Cluster). map (next_of now r) (take i old) ++ xs) (drop-cons old i x lt ∙ ap (λ (y : Cluster). y ∷ drop (suc i) old) (sym is))
-
-front_long : (now : Time) (r : Reports) (old : List Cluster) (i : ℕ) → i ≤ length old → length (map (next_of now r) (take i old)) ≡ i
-front_long now r old i le = length-map (take i old) (next_of now r) ∙ length-take-le i old le
-
--- the cluster whose turn it is is as before
-pub turn_is : (now : Time) (r : Reports) (old clusters : List Cluster) (i : ℕ) (d : Cluster) → i < length old → clusters ≡ mixed now r old i → get_or clusters i d ≡ get_or old i d
-turn_is now r old clusters i d lt is =
-    let x : Cluster = get_or old i d in
-    let same : x ≡ get_or old i x = get_or_default old i d x lt in
-    let front : List Cluster = map (next_of now r) (take i old) in
-    let long : length front ≡ i = front_long now r old i (omega arith) in
-    ap (λ (cs : List Cluster). get_or cs i d) (is ∙ this_mixed now r old i x lt same) ∙ (ap (λ (n : ℕ). get_or (front ++ (x ∷ drop (suc i) old)) n d) (sym long) ∙ get_or-append_seam front x (drop (suc i) old) d)
-
-pub turn_stepped : (now : Time) (r : Reports) (old clusters new : List Cluster) (i : ℕ) (x next : Cluster) → i < length old → clusters ≡ mixed now r old i → x ≡ get_or old i x → next ≡ next_of now r x → new ≡ set clusters i next → new ≡ mixed now r old (i + 1)
-turn_stepped now r old clusters new i x next lt is at step wrote =
-    let front : List Cluster = map (next_of now r) (take i old) in
-    let long : length front ≡ i = front_long now r old i (omega arith) in
-    wrote ∙ (ap (λ (cs : List Cluster). set cs i next) (is ∙ this_mixed now r old i x lt at) ∙
-    (ap (λ (n : ℕ). set (front ++ (x ∷ drop (suc i) old)) n next) (sym long) ∙ (set-append_seam front x (drop (suc i) old) next ∙
-    (ap (λ (y : Cluster). front ++ (y ∷ drop (suc i) old)) step ∙ sym (next_mixed now r old i x lt at)))))
-
-pub turn_stays : (now : Time) (r : Reports) (old clusters : List Cluster) (i : ℕ) (x : Cluster) → i < length old → clusters ≡ mixed now r old i → x ≡ get_or old i x → next_of now r x ≡ x → clusters ≡ mixed now r old (i + 1)
-turn_stays now r old clusters i x lt is at stays =
-    is ∙ (this_mixed now r old i x lt at ∙ (ap (λ (y : Cluster). map (next_of now r) (take i old) ++ (y ∷ drop (suc i) old)) (sym stays) ∙ sym (next_mixed now r old i x lt at)))
-
-pub steps_end : (now : Time) (r : Reports) (old clusters : List Cluster) (i : ℕ) → length old ≤ i → clusters ≡ mixed now r old i → clusters ≡ map (next_of now r) old
-steps_end now r old clusters i le is =
-    is ∙ (ap (λ (xs : List Cluster). map (next_of now r) (take i old) ++ xs) (drop_of_length-le old le) ∙ (append-nil (map (next_of now r) (take i old)) ∙ ap (λ (xs : List Cluster). map (next_of now r) xs) (take_all i old le)))
-
-mixed_at : (now : Time) (r : Reports) (old : List Cluster) (i k : ℕ) (d : Cluster) → k < length old → (get_or (mixed now r old i) k d ≡ get_or old k d) ⊎ (get_or (mixed now r old i) k d ≡ next_of now r (get_or old k d))
-mixed_at now r [] i k d lt = absurd (omega arith)
-mixed_at now r (c ∷ cs) zero k d lt = inl refl
-mixed_at now r (c ∷ cs) (suc i) zero d lt = inr refl
-mixed_at now r (c ∷ cs) (suc i) (suc k) d lt = mixed_at now r cs i k d (omega arith)
-
-mixed_long : (now : Time) (r : Reports) (old : List Cluster) (i : ℕ) → length (mixed now r old i) ≡ length old
-mixed_long now r [] zero = refl
-mixed_long now r [] (suc i) = refl
-mixed_long now r (c ∷ cs) zero = refl
-mixed_long now r (c ∷ cs) (suc i) = ap suc (mixed_long now r cs i)
-
-pub are_stepped : (now : Time) (r : Reports) (old clusters : List Cluster) (i : ℕ) → clusters ≡ mixed now r old i → AreStepped now r old clusters
-are_stepped now r old clusters i is =
-    subst (AreStepped now r old) (sym is) (record { count = mixed_long now r old i; each = λ k d lt. mixed_at now r old i k d lt })
+pub others_stay : (users : UserList) (changed : List (List ℕ)) (marks : List Bool) (last now : Time) (r s : Reports) (clusters before : List Cluster) → AreIndexed users clusters → MarksUsers users changed marks → length marks ≡ length clusters →
+    clusters ≡ clusters_after last r (entries_of clusters) before → DifferAt changed r s → OthersStay last now s marks clusters
+others_stay users changed marks last now r s clusters before indexed marked long is differ = λ place d lt unmarked on le.
+    unread_stays users changed last now r s clusters before indexed is differ place d lt
+    (λ a has reads. (let clash : true ≡ false = sym (marked a place has reads (omega (arith, long, lt))) ∙ unmarked in cc)) on le
 
 pub record IsNotDue (marked quiet : Bool) (now last : ℕ) : Type 0 where
   pub unmarked : marked ≡ false

@@ -4,4 +4,5 @@ pub mod ClusterLemmas
 pub mod ChangeLemmas
 pub mod MergeLemmas
 pub mod TimerLemmas
+pub mod StepLemmas
 pub mod ViewLemmas

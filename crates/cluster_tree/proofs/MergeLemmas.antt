@@ -20,7 +20,7 @@ use Rattle.cluster_tree.specs.declared.cluster_trees.Standing.{Standing}
 use Rattle.tree_steps.specs.Reports.{Reports}
 use Rattle.tree_steps.specs.Users.{UserList, ReadsLeaves}
 use Rattle.cluster_tree.specs.StandingTrees.{cluster_after, cluster_named, clusters_after, stands_in}
-use Rattle.cluster_tree.specs.ClusterUsers.{AreRising, IsReached, AreReadIn, AreReadBut, AreIndexed, EntriesStay, StandBut, IsSound, StaysUnmarked}
+use Rattle.cluster_tree.specs.ClusterUsers.{AreRising, IsReached, AreReadIn, AreReadBut, AreIndexed, EntriesStay, OthersStay, StandBut, IsSound, StaysUnmarked}
 use Rattle.cluster_tree.proofs.ForestLemmas.{find_first, names_differ, not_due}
 
 -- ---- the cluster of a name stands at the place that is reached, if anywhere
@@ -196,6 +196,12 @@ reached_end clusters i end name le is before = record {
 }
 
 -- ---- a cluster that stays as it is
+
+-- the cluster that was found is among those that stay where they aren't marked
+pub stays_here : (last now : Time) (r : Reports) (marks : List Bool) (clusters : List Cluster) (place : ℕ) (found : Option Cluster) → OthersStay last now r marks clusters → IfSome found (λ c. (place < length clusters) × (get_or clusters place c ≡ c)) →
+    IfSome found (λ c. StaysUnmarked last now r (get_or marks place false) c)
+stays_here last now r marks clusters place None others here = tt
+stays_here last now r marks clusters place (Some c) others here = subst (λ (x : Cluster). StaysUnmarked last now r (get_or marks place false) x) here.1 (others place c here.0)
 
 pub stays_same : (last now : Time) (r : Reports) (mark : Bool) (c : Cluster) (entry : ClusterEntry) → StaysUnmarked last now r mark c → (mark || not (stands_in now c.state) || nat_lt now.0 last.0) ≡ false → c.entry ≡ entry →
     c ≡ cluster_after now r entry (Some c)

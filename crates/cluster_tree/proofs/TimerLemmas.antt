@@ -1,80 +1,115 @@
--- Clusters whose trees are quiet.
-use Rattle.std.proofs.Common.{◌≡◌, ◌<◌, ◌≤◌, ◌+◌, ◌||◌, ℕ, Bool, true, false, List, [], ◌∷◌, ◌++◌, length, get_or, set, Result, Ok, Err, ◌⊎◌, inl, inr, refl, sym, ap, ◌∙◌, subst, arith}
-use Rattle.std.specs.Prelude.{not}
-use Rattle.std.proofs.lemmas.Bool.{cases_eq, cases_lt}
-use Rattle.std.proofs.lemmas.List.{length_push, length-set, get_or_push, get_or_append_left, get_or-set_same, get_or-set_other}
+-- Which clusters are due, and the ends of the others' timers.
+use Rattle.std.proofs.Common.{◌≡◌, ◌<◌, ◌≤◌, ◌+◌, nat_lt, ℕ, Bool, true, false, List, [], length, take, get_or, Result, ◌⊎◌, inl, inr, refl, sym, ap, ◌∙◌, subst, arith}
+use Rattle.std.specs.Prelude.{All, Contains}
+use Rattle.std.specs.BTreeSet.{BTreeSet}
+use Rattle.std.proofs.lemmas.Bool.{cases_lt}
+use Rattle.std.proofs.lemmas.Bool.Decides.{nat_tests}
+use Rattle.std.proofs.lemmas.List.{get_or_default, get_or-take, length-take-le, take_all}
 use Rattle.xc_base.specs.declared.names.Time.{Time}
 use Rattle.xc_base.specs.declared.reason.Reason.{Reason}
-use Rattle.cluster_tree.specs.declared.cluster_trees.Cluster.{Cluster}
-use Rattle.cluster_tree.specs.declared.cluster_trees.Standing.{Standing}
-use Rattle.tree_steps.specs.Quiet.{stand_at}
-use Rattle.cluster_tree.specs.StandingTrees.{stands_in}
+use Rattle.priority_lb.specs.RunningTimers.{never}
+use Rattle.tree_timers.specs.declared.timer_ends.TimerEnd.{TimerEnd}
+use Rattle.tree_timers.specs.EndsKept.{Ends, HasEnd, HasPlace, IsDue, KeepsPlaces}
 use Rattle.tree_steps.specs.declared.tree_view.TreeView.{TreeView}
-use Rattle.tree_steps.specs.Users.{UserList}
-use Rattle.cluster_tree.specs.ClusterTimers.{quiet_in, AreQuietBut, AreKept}
+use Rattle.tree_steps.specs.Users.{UserList, users_at}
+use Rattle.cluster_tree.specs.declared.cluster_trees.Cluster.{Cluster}
+use Rattle.cluster_tree.specs.StandingTrees.{until_in}
+use Rattle.cluster_tree.specs.ClusterUsers.{StandBut}
+use Rattle.cluster_tree.specs.ClusterTimers.{AreKept, AreLeft, AreTimed, AreTimedBut, IsTimed, end_at, is_due_at}
 use Rattle.cluster_tree.proofs.MergeLemmas.{none_indexed}
 
--- no timer has ended where none runs
-pub quiet_stands : (now : Time) (state : Result Standing Reason) → quiet_in state ≡ true → stands_in now state ≡ true
-quiet_stands now (Ok s) quiet = ap (λ (b : Bool). b || stand_at now s.trees) quiet
-quiet_stands now (Err reason) quiet = refl
+pub kept_timed : (old new : Ends) (place : ℕ) (cluster : Cluster) → ((end : TimerEnd) → HasEnd old end → HasEnd new end) → IsTimed old place cluster → IsTimed new place cluster
+kept_timed old new place cluster kept timed runs = kept (end_at place cluster.state) (timed runs)
 
-quiet_by : (mark : Bool) (state : Result Standing Reason) → mark ≡ not (quiet_in state) → mark ≡ false → quiet_in state ≡ true
-quiet_by mark state is off = by (quiet_in state) (sym is ∙ off)
+-- a cluster that stood at its place
+pub stood_timed : (marks : List Bool) (ends : Ends) (old new : List Cluster) → StandBut marks old new → AreTimed ends old → (place : ℕ) (d : Cluster) → place < length new → get_or marks place false ≡ false → IsTimed ends place (get_or new place d)
+stood_timed marks ends old new stand timed place d lt off =
+    let stood = stand.each place d lt off in
+    subst (λ (c : Cluster). IsTimed ends place c) (sym stood.1) (timed place d stood.0)
+
+-- ---- which clusters are due
+
+-- a place that isn't due isn't in the set
+pub not_there : (due : BTreeSet ℕ) (place : ℕ) → is_due_at due place ≡ false → HasPlace due place → ⊥
+not_there due place off there = (let clash : true ≡ false = sym there ∙ off in absurd (cc))
+
+ended_by : (now : Time) (until : ℕ) → nat_lt now.0 until ≡ false → until ≤ now.0
+ended_by now until off = grind (arith, nat_tests)
+
+stands_by : (now : Time) (until : ℕ) → (until ≤ now.0 → ⊥) → nat_lt now.0 until ≡ true
+stands_by now until never_ended = by (nat_lt now.0 until) refl
   where
-    by : (quiet : Bool) → not quiet ≡ false → quiet ≡ true
-    by true off = refl
-    by false off = (let clash : true ≡ false = off in absurd (cc))
+    by : (b : Bool) → nat_lt now.0 until ≡ b → b ≡ true
+    by true is = refl
+    by false is = absurd (never_ended (ended_by now until is))
 
--- one more cluster with its mark
-pub quiet_more : (clusters newer : List Cluster) (marks more : List Bool) (cluster : Cluster) (mark : Bool) → AreQuietBut marks clusters → newer ≡ clusters ++ cluster ∷ [] → more ≡ marks ++ mark ∷ [] → mark ≡ not (quiet_in cluster.state) →
-    AreQuietBut more newer
-quiet_more clusters newer marks more cluster mark was is are tells =
-    subst (λ (cs : List Cluster). AreQuietBut more cs) (sym is) (subst (λ (ms : List Bool). AreQuietBut ms (clusters ++ cluster ∷ [])) (sym are) (record {
-      count = length_push marks mark ∙ (ap (λ (n : ℕ). n + 1) was.count ∙ sym (length_push clusters cluster));
-      each = λ place d lt. by place d lt (cases_lt place (length clusters));
-    }))
-  where
-    by : (place : ℕ) (d : Cluster) → place < length (clusters ++ cluster ∷ []) → (place < length clusters) ⊎ (length clusters ≤ place) → get_or (marks ++ mark ∷ []) place false ≡ false →
-        quiet_in (get_or (clusters ++ cluster ∷ []) place d).state ≡ true
-    by place d lt (inl within) off =
-        let among : place < length marks = omega (arith, within, was.count) in
-        subst (λ (c : Cluster). quiet_in c.state ≡ true) (sym (get_or_append_left clusters (cluster ∷ []) d place within))
-        (was.each place d within (sym (get_or_append_left marks (mark ∷ []) false place among) ∙ off))
-    by place d lt (inr past) off =
-        let long = length_push clusters cluster in
-        let last : length clusters ≡ place = omega (arith, long, lt, past) in
-        subst (λ (c : Cluster). quiet_in c.state ≡ true) (sym (get_or_push clusters cluster d place last))
-        (quiet_by mark cluster.state tells (sym (get_or_push marks mark false place (was.count ∙ last)) ∙ off))
-
--- another cluster with its mark at a place
-pub quiet_put : (clusters newer : List Cluster) (marks more : List Bool) (at : ℕ) (cluster : Cluster) (mark : Bool) → at < length clusters → AreQuietBut marks clusters → newer ≡ set clusters at cluster → more ≡ set marks at mark →
-    mark ≡ not (quiet_in cluster.state) → AreQuietBut more newer
-quiet_put clusters newer marks more at cluster mark lt was is are tells =
-    subst (λ (cs : List Cluster). AreQuietBut more cs) (sym is) (subst (λ (ms : List Bool). AreQuietBut ms (set clusters at cluster)) (sym are) (record {
-      count = length-set marks at mark ∙ (was.count ∙ sym (length-set clusters at cluster));
-      each = λ place d within. by place d within (cases_eq place at);
-    }))
-  where
-    by : (place : ℕ) (d : Cluster) → place < length (set clusters at cluster) → (place ≡ at) ⊎ (place ≡ at → ⊥) → get_or (set marks at mark) place false ≡ false → quiet_in (get_or (set clusters at cluster) place d).state ≡ true
-    by place d within (inl same) off =
-        let among : at < length marks = omega (arith, lt, was.count) in
-        let c : get_or (set clusters at cluster) place d ≡ cluster = ap (λ (n : ℕ). get_or (set clusters at cluster) n d) same ∙ get_or-set_same clusters at cluster d lt in
-        let m : get_or (set marks at mark) place false ≡ mark = ap (λ (n : ℕ). get_or (set marks at mark) n false) same ∙ get_or-set_same marks at mark false among in
-        subst (λ (x : Cluster). quiet_in x.state ≡ true) (sym c) (quiet_by mark cluster.state tells (sym m ∙ off))
-    by place d within (inr other) off =
-        subst (λ (x : Cluster). quiet_in x.state ≡ true) (sym (get_or-set_other clusters at place cluster d other))
-        (was.each place d (rw (length-set) at within) (sym (get_or-set_other marks at place mark false other) ∙ off))
-
-pub none_quiet : (marks : List Bool) (clusters : List Cluster) → marks ≡ [] → clusters ≡ [] → AreQuietBut marks clusters
-none_quiet marks clusters are is = record {
-  count = ap length are ∙ sym (ap length is);
-  each = λ place d lt off. absurd (omega (arith, lt, ap length is));
+-- where time goes on, and the readers and the ends that have come are in the set
+pub left_by : (last now : Time) (users : UserList) (changed : List (List ℕ)) (ends : Ends) (clusters : List Cluster) (due : BTreeSet ℕ) → last.0 ≤ now.0 → now.0 < never → AreTimed ends clusters →
+    ((address : List ℕ) (place : ℕ) → Contains changed address → Contains (users_at users address) place → HasPlace due place) → ((end : TimerEnd) → HasEnd ends end → IsDue now end → HasPlace due end.place) →
+    AreLeft last now users changed due clusters
+left_by last now users changed ends clusters due le before timed readers ended place d lt off = record {
+  unread = λ address has reads. not_there due place off (readers address place has reads);
+  stands = stands_by now (until_in (get_or clusters place d).state) (λ over. not_there due place off (ended (end_at place (get_or clusters place d).state) (timed place d lt (omega (arith, over, before))) over));
+  goes_on = le;
 }
 
-pub none_kept : (users : UserList) (marks : List Bool) (views : List (Result TreeView Reason)) (clusters : List Cluster) → marks ≡ [] → clusters ≡ [] → AreKept users marks views clusters
-none_kept users marks views clusters are is = record {
+-- those that aren't due have no end that was taken out
+pub timed_by : (now : Time) (old new : Ends) (clusters : List Cluster) (due : BTreeSet ℕ) → now.0 < never → AreTimed old clusters → ((end : TimerEnd) → HasEnd old end → IsDue now end → HasPlace due end.place) →
+    ((end : TimerEnd) → HasEnd old end → now.0 < end.at.0 → HasEnd new end) → AreTimedBut due new clusters
+timed_by now old new clusters due before timed ended kept place d lt off runs = by (cases_lt now.0 (until_in (get_or clusters place d).state))
+  where
+    own : TimerEnd
+    own = end_at place (get_or clusters place d).state
+
+    by : (now.0 < until_in (get_or clusters place d).state) ⊎ (until_in (get_or clusters place d).state ≤ now.0) → HasEnd new own
+    by (inl less) = kept own (timed place d lt runs) less
+    by (inr over) = absurd (not_there due place off (ended own (timed place d lt runs) over))
+
+-- where all are due, none is left
+pub none_left : (last now : Time) (users : UserList) (changed : List (List ℕ)) (clusters : List Cluster) (due : BTreeSet ℕ) → ((place : ℕ) → place < length clusters → HasPlace due place) → AreLeft last now users changed due clusters
+none_left last now users changed clusters due all place d lt off = absurd (not_there due place off (all place lt))
+
+pub none_timed : (ends : Ends) (clusters : List Cluster) (due : BTreeSet ℕ) → ((place : ℕ) → place < length clusters → HasPlace due place) → AreTimedBut due ends clusters
+none_timed ends clusters due all place d lt off = absurd (not_there due place off (all place lt))
+
+-- ---- no clusters
+
+pub none_kept : (users : UserList) (ends : Ends) (views : List (Result TreeView Reason)) (clusters : List Cluster) → clusters ≡ [] → AreKept users ends views clusters
+none_kept users ends views clusters is = record {
+  few = omega (arith, ap length is);
   indexed = none_indexed users clusters is;
-  quiet = none_quiet marks clusters are is;
+  timed = λ place d lt. absurd (omega (arith, lt, ap length is));
   seen = λ place d lt. absurd (omega (arith, lt, ap length is));
 }
+
+-- ---- places that are added to a set
+
+-- all of the first members, and one more
+pub all_more : {X : Type 0} (P Q : X → Type 0) (xs : List X) (i : ℕ) (d : X) → i < length xs → All P (take i xs) → ((x : X) → P x → Q x) → Q (get_or xs i d) → All Q (take (i + 1) xs)
+all_more {X} P Q xs i d lt all each here k e within = by (cases_lt k i)
+  where
+    long : length (take (i + 1) xs) ≡ i + 1
+    long = length-take-le (i + 1) xs (omega (arith, lt))
+
+    by : (k < i) ⊎ (i ≤ k) → Q (get_or (take (i + 1) xs) k e)
+    by (inl less) =
+        let short = length-take-le i xs (omega (arith, lt)) in
+        let same : get_or (take i xs) k e ≡ get_or (take (i + 1) xs) k e = get_or-take i xs k e less ∙ sym (get_or-take (i + 1) xs k e (omega (arith, less))) in
+        subst Q same (each (get_or (take i xs) k e) (all k e (omega (arith, short, less))))
+    by (inr le) =
+        let l = long in
+        let at : k ≡ i = omega (arith, l, within, le) in
+        let same : get_or xs i d ≡ get_or (take (i + 1) xs) k e =
+        get_or_default xs i d e lt ∙ (ap (λ (n : ℕ). get_or xs n e) (sym at) ∙ sym (get_or-take (i + 1) xs k e (omega (arith, at)))) in
+        subst Q same here
+
+pub all_of : {X : Type 0} (P : X → Type 0) (xs : List X) (i : ℕ) → length xs ≤ i → All P (take i xs) → All P xs
+all_of P xs i le all = subst (λ ys. All P ys) (take_all i xs le) all
+
+-- each place below one more
+pub below_more : (old new : BTreeSet ℕ) (i : ℕ) → KeepsPlaces old new → HasPlace new i → ((place : ℕ) → place < i → HasPlace old place) → (place : ℕ) → place < i + 1 → HasPlace new place
+below_more old new i kept here below place lt = by (cases_lt place i)
+  where
+    by : (place < i) ⊎ (i ≤ place) → HasPlace new place
+    by (inl less) = kept place (below place less)
+    by (inr le) = let at : i ≡ place = omega (arith, lt, le) in subst (λ (n : ℕ). HasPlace new n) at here

@@ -1,18 +1,20 @@
 -- What is seen of clusters, block by block.
-use Rattle.std.proofs.Common.{◌≡◌, ◌<◌, ◌≤◌, ◌+◌, ◌-◌, ◌*◌, ◌%◌, ◌++◌, ℕ, Bool, false, List, [], ◌∷◌, length, min, take, drop, get_or, Option, Some, None, sym, ap, subst, ◌∙◌, arith}
-use Rattle.std.specs.Prelude.{slice_get, IfSome, Result}
+use Rattle.std.proofs.Common.{◌≡◌, ◌<◌, ◌≤◌, ◌+◌, ◌-◌, ◌*◌, ◌%◌, ◌++◌, ◌⊎◌, ℕ, Bool, true, false, List, [], ◌∷◌, length, min, take, drop, get_or, Option, Some, None, inl, inr, refl, sym, ap, subst, ◌∙◌, arith}
+use Rattle.std.specs.Prelude.{◌↔◌, slice_get, Contains, IfSome, Result}
+use Rattle.std.proofs.lemmas.Bool.{cases_lt}
 use Rattle.std.proofs.Math.Nat.{mul-mod_right}
 use Rattle.std.proofs.Math.Seq.{take-add}
-use Rattle.std.proofs.lemmas.List.{get_or-map, length-drop, length-map, length-take, length-take-le, map-append, same_lists, take_min, take_rest}
+use Rattle.std.proofs.lemmas.List.{get_or_default, get_or-map, length-drop, length-map, length-take, length-take-le, map-append, same_lists, take_min, take_rest}
 use Rattle.std.proofs.lemmas.Option.{get_or_from_slice_get, slice_get-get_or}
 use Rattle.xc_base.specs.declared.reason.Reason.{Reason}
 use Rattle.tree_steps.specs.declared.tree_view.TreeView.{TreeView}
 use Rattle.block_list.proofs.BlockLemmas.{get_drop, get_take}
+use Rattle.place_marks.specs.Marks.{AreRising}
 use Rattle.cluster_tree.specs.declared.cluster_trees.Cluster.{Cluster}
 use Rattle.cluster_tree.specs.StandingTrees.{views_of}
 use Rattle.cluster_tree.specs.ViewChanges.{seen_of, MarkChangesInPlace}
 use Rattle.cluster_tree.specs.ClusterUsers.{StandBut}
-use Rattle.cluster_tree.specs.KeptViews.{StayBut, AreViewsIn}
+use Rattle.cluster_tree.specs.KeptViews.{StayBut, AreViewsIn, IsCountBefore}
 
 abbrev pub Seen : Type 0
 Seen = Result TreeView Reason
@@ -33,13 +35,6 @@ pub at_part : {T : Type 0} (xs : List T) (from i : ℕ) (d : T) → i < length (
 at_part xs from i d lt =
     sym (get_or_from_slice_get xs (from + i) (get_or (take 32 (drop from xs)) i d) d
     (sym (get_take (drop from xs) 32 i (in_part xs from i lt) ∙ get_drop xs from i) ∙ slice_get-get_or (take 32 (drop from xs)) i d lt))
-
--- a mark behind the last one isn't set
-pub mark_in_part : (marks : List Bool) (from i : ℕ) → i < 32 → get_or (take 32 (drop from marks)) i false ≡ false → length (take 32 (drop from marks)) ≤ i → length marks ≤ from + i
-mark_in_part marks from i few off past =
-    let long = length-take 32 (drop from marks) in
-    let left = length-drop from marks in
-    omega (arith, long, left, few, past)
 
 -- the first members behind a place, where a split takes them
 pub first_behind : {T : Type 0} (xs : List T) (from k : ℕ) → k ≡ min (length (take (length xs - from) (drop from xs))) 32 → take k (take (length xs - from) (drop from xs)) ≡ take 32 (drop from xs)
@@ -103,18 +98,52 @@ pub whole_so_far : (clusters : List Cluster) (number : ℕ) (after : List Seen) 
 whole_so_far clusters number after lt was =
     ap (λ (n : ℕ). n % 32) (ap (λ (vs : List Seen). length vs) was ∙ (length-map (take (32 * number) clusters) seen_of ∙ length-take-le (32 * number) clusters (omega (arith, lt)))) ∙ mul-mod_right 32 number
 
+-- ---- places before an end
+
+-- so many in front stand before it
+abbrev pub AreBefore : List ℕ → ℕ → ℕ → Type 0
+AreBefore places end count = (k d : ℕ) → k < count → get_or places k d < end
+
 -- ---- where the views of unmarked clusters stay
 
-pub part_stays : (marks : List Bool) (views : List Seen) (clusters : List Cluster) (number : ℕ) → length marks ≡ length clusters → StayBut marks views clusters → (place : ℕ) (d : Cluster) → place < length (take 32 (drop (32 * number) clusters))
-    → get_or (take 32 (drop (32 * number) marks)) place false ≡ false → IfSome (slice_get views (32 * number + place)) (λ view. view ≡ seen_of (get_or (take 32 (drop (32 * number) clusters)) place d))
-part_stays marks views clusters number count stay place d lt off =
-    let many = length-take 32 (drop (32 * number) marks) in
-    let left = length-drop (32 * number) marks in
+-- the marked places, in rising order
+pub record AreMarkedAt (marks : List Bool) (places : List ℕ) : Type 0 where
+  pub rising : AreRising places
+  pub marked : (place : ℕ) → (get_or marks place false ≡ true) ↔ Contains places place
+
+never_falls : (places : List ℕ) → AreRising places → (i j d : ℕ) → i ≤ j → j < length places → get_or places i d ≤ get_or places j d
+never_falls places rising i j d le lt = by (cases_lt i j)
+  where
+    by : (i < j) ⊎ (j ≤ i) → get_or places i d ≤ get_or places j d
+    by (inl less) = omega (arith, rising i j d less lt)
+    by (inr least) =
+        let one : i ≡ j = omega (arith, le, least) in
+        subst (λ (n : ℕ). get_or places i d ≤ get_or places n d) one (omega arith)
+
+-- no place between two ends is marked, where as many marked places stand before both
+pub none_between : (marks : List Bool) (places : List ℕ) (from end count place : ℕ) → AreMarkedAt marks places → AreBefore places from count → IsCountBefore places end count → from ≤ place → place < end → get_or marks place false ≡ false
+none_between marks places from end count place are before counted le lt = by (get_or marks place false) refl
+  where
+    nowhere : Contains places place → ⊥
+    nowhere among = at (get_or_default places among.0 0 place among.1 ∙ among.2) (cases_lt among.0 count)
+      where
+        at : get_or places among.0 0 ≡ place → (among.0 < count) ⊎ (count ≤ among.0) → ⊥
+        at is (inl less) = omega (arith, le, is, before among.0 0 less)
+        at is (inr past) = omega (arith, lt, is, counted.stops 0 (omega (arith, past, among.1)), never_falls places are.rising count among.0 0 past among.1)
+
+    by : (mark : Bool) → get_or marks place false ≡ mark → mark ≡ false
+    by true on = absurd (nowhere ((are.marked place).0 on))
+    by false off = refl
+
+pub part_stays : (marks : List Bool) (places : List ℕ) (views : List Seen) (clusters : List Cluster) (number before count : ℕ) → AreMarkedAt marks places → StayBut marks views clusters
+    → AreBefore places (32 * number) before → IsCountBefore places (32 * (number + 1)) count → count ≤ before → (place : ℕ) (d : Cluster) → place < length (take 32 (drop (32 * number) clusters))
+    → IfSome (slice_get views (32 * number + place)) (λ view. view ≡ seen_of (get_or (take 32 (drop (32 * number) clusters)) place d))
+part_stays marks places views clusters number before count are stay passed counted le place d lt =
     let among : 32 * number + place < length clusters = in_whole clusters (32 * number) place lt in
     let few : place < 32 = in_part clusters (32 * number) place lt in
-    let own : place < length (take 32 (drop (32 * number) marks)) = omega (arith, many, left, among, few, count) in
+    let off = none_between marks places (32 * number) (32 * (number + 1)) count (32 * number + place) are (λ k x less. passed k x (omega (arith, le, less))) counted (omega arith) (omega (arith, few)) in
     subst (λ (c : Cluster). IfSome (slice_get views (32 * number + place)) (λ view. view ≡ seen_of c)) (sym (at_part clusters (32 * number) place d lt))
-    (stay (32 * number + place) d among (sym (at_part marks (32 * number) place false own) ∙ off))
+    (stay (32 * number + place) d among off)
 
 pub stay_in_place : (marks : List Bool) (views : List Seen) (old new : List Cluster) → length new ≡ length old → MarkChangesInPlace marks old new → AreViewsIn views old → StayBut marks views new
 stay_in_place marks views old new long changes stand place d lt off =

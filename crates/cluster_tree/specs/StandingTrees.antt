@@ -1,5 +1,5 @@
 -- The trees of the clusters of a configuration, as one step from those before (gRFC A37, A74).
-use Rattle.std.specs.Prelude.{◌≡◌, List, [], map, find, ℕ, bytes_eq, Contains, Bool, true, ◌||◌, Result, Ok, Err, Option, Some, None}
+use Rattle.std.specs.Prelude.{◌≡◌, List, [], map, find, ℕ, bytes_eq, Contains, Bool, nat_lt, Result, Ok, Err, Option, Some, None}
 use Rattle.std.specs.Option.{option_and_then}
 use Rattle.xc_base.specs.declared.names.Time.{Time}
 use Rattle.xc_base.specs.declared.reason.Reason.{Reason}
@@ -10,7 +10,8 @@ use Rattle.cluster_tree.specs.declared.cluster_trees.Cluster.{Cluster}
 use Rattle.cluster_tree.specs.declared.cluster_trees.Standing.{Standing}
 use Rattle.tree_steps.specs.declared.tree_view.TreeView.{TreeView}
 use Rattle.tree_steps.specs.Reports.{Reports, state_in}
-use Rattle.tree_steps.specs.Quiet.{is_quiet, stand_at}
+use Rattle.tree_steps.specs.TreeEnds.{trees_end}
+use Rattle.priority_lb.specs.RunningTimers.{never}
 use Rattle.tree_steps.specs.TreeSteps.{TreeFacts, trees_after, trees_view}
 
 abbrev pub trees_in : Result Standing Reason → Option (Pair TreeFacts)
@@ -26,7 +27,7 @@ abbrev pub cluster_named : List ℕ → List Cluster → Option Cluster
 cluster_named name clusters = find (λ c. bytes_eq c.entry.name name) clusters
 
 abbrev pub standing : Reports → Pair TreeFacts → Standing
-standing reports trees = record { trees = trees; view = trees_view reports trees; quiet = is_quiet trees }
+standing reports trees = record { trees = trees; view = trees_view reports trees; until = record { 0 = trees_end trees } }
 
 abbrev pub state_after : Time → Reports → Result Leaves Reason → Option (Pair TreeFacts) → Result Standing Reason
 state_after now reports (Ok leaves) old = Ok (standing reports (trees_after now reports leaves old))
@@ -76,7 +77,11 @@ DifferAt changed old new = (address : List ℕ) → (Contains changed address �
 abbrev pub ChangesAt : List (List ℕ) → Reports → Forest → Type 0
 ChangesAt changed reports forest = (last : Reports) × IsUpdatedWith last forest × DifferAt changed last reports
 
+-- until when time alone changes nothing of a cluster's trees
+abbrev pub until_in : Result Standing Reason → ℕ
+until_in (Ok standing) = standing.until.0
+until_in (Err reason) = never
+
 -- whether none of the timers of a cluster's trees has ended at a time
 abbrev pub stands_in : Time → Result Standing Reason → Bool
-stands_in now (Ok standing) = standing.quiet || stand_at now standing.trees
-stands_in now (Err reason) = true
+stands_in now state = nat_lt now.0 (until_in state)

@@ -1,14 +1,14 @@
 //! Clusters before and after an update, side by side in the order of their names.
-ghost use Rattle.std.specs.Prelude.{◌≡◌, ◌<◌, ◌≤◌, ◌++◌, ◌∷◌, ◌↔◌, ◌||◌, ℕ, [], length, get_or, slice_get, option_map, true, false, Some, not, nat_lt, IsTrue, IfOk, IfSome, OnOk};
+ghost use Rattle.std.specs.Prelude.{◌≡◌, ◌<◌, ◌≤◌, ◌++◌, ◌∷◌, ◌↔◌, ◌||◌, ◌^◌, ℕ, [], length, get_or, slice_get, option_map, true, false, Some, not, nat_lt, IsTrue, IfOk, IfSome, OnOk};
 ghost use Rattle.xds_config.specs.Configs.{AreLawfulLeaves, IsNameBefore};
 ghost use Rattle.cluster_tree.specs.declared.cluster_trees.Cluster.{Cluster as ClusterValue};
 ghost use Rattle.cluster_tree.specs.StandingTrees.{cluster_after, cluster_named, stands_in};
 ghost use Rattle.cluster_tree.specs.ClusterUsers.{AreRising, IsReached, StaysUnmarked};
-ghost use Rattle.cluster_tree.specs.ClusterTimers.{quiet_in};
 ghost use Rattle.cluster_tree.specs.ViewChanges.{seen_of, IsChangeMark};
 
-use crate::cluster_timers::{has_timers, stands_with};
+use crate::cluster_timers::stands;
 use crate::cluster_trees::{Cluster, NextCluster, cluster_after, share_cluster};
+use place_marks::Marks;
 use std::alloc::Global;
 use std::cmp::Ordering;
 use std::collections::BTreeMap;
@@ -34,7 +34,7 @@ pub(crate) struct Turn {
 
 /// Which clusters may not stay as they are.
 #[derive(Clone, Copy)]
-pub(crate) struct Marks<'a> {
+pub(crate) struct Others<'a> {
     /// For each cluster from before, whether it reads an address whose state changed.
     pub(crate) readers: &'a [bool],
     /// For each entry of the configuration, whether it may be another one than stood at its place.
@@ -46,41 +46,33 @@ pub(crate) struct Marks<'a> {
 pub(crate) struct NextClusters {
     pub(crate) clusters: Vec<Cluster>,
     /// For each, whether what is seen of it differs from before.
-    pub(crate) changed: Vec<bool>,
+    pub(crate) changed: Marks,
     /// For each, whether it isn't the cluster that stood at its place.
-    pub(crate) anew: Vec<bool>,
-    /// For each, whether a timer of its trees runs.
-    pub(crate) timers: Vec<bool>,
+    pub(crate) anew: Marks,
 }
 
 impl NextClusters {
     /// No clusters, with room for so many. It fails for want of memory alone.
     pub(crate) fn with_room(alloc: Global, room: usize) -> Result<NextClusters, Memory>
         ensures clusters { IfOk result (λ next. next.clusters.items ≡ []) }
-        ensures changed { IfOk result (λ next. next.changed.items ≡ []) }
-        ensures anew { IfOk result (λ next. next.anew.items ≡ []) }
-        ensures timers { IfOk result (λ next. next.timers.items ≡ []) }
+        ensures changed { IfOk result (λ next. next.changed ≡ []) }
+        ensures anew { IfOk result (λ next. next.anew ≡ []) }
     {
-        let clusters = Vec::with_capacity(alloc, room)?;
-        let changed = Vec::with_capacity(alloc, room)?;
-        let anew = Vec::with_capacity(alloc, room)?;
-        let timers = Vec::with_capacity(alloc, room)?;
         Ok(NextClusters {
-            clusters,
-            changed,
-            anew,
-            timers,
+            clusters: Vec::with_capacity(alloc, room)?,
+            changed: Marks::none(alloc, 0),
+            anew: Marks::none(alloc, 0),
         })
     }
 
     /// One more cluster, which has the place that it had before or another one.
     pub(crate) fn push(&mut self, next: NextCluster, moved: bool) -> Result<(), Memory>
+        requires changed { length self.old.changed < 2 ^ 32 }
+        requires anew { length self.old.anew < 2 ^ 32 }
         ensures clusters { OnOk result (self.new.clusters.items ≡ self.old.clusters.items ++ next.cluster ∷ []) }
-        ensures changed { OnOk result (self.new.changed.items ≡ self.old.changed.items ++ next.changed ∷ []) }
-        ensures anew { OnOk result (self.new.anew.items ≡ self.old.anew.items ++ (next.anew || moved) ∷ []) }
-        ensures timers { OnOk result (self.new.timers.items ≡ self.old.timers.items ++ not (quiet_in next.cluster.state) ∷ []) }
+        ensures changed { OnOk result (self.new.changed ≡ self.old.changed ++ next.changed ∷ []) }
+        ensures anew { OnOk result (self.new.anew ≡ self.old.anew ++ (next.anew || moved) ∷ []) }
     {
-        self.timers.push(has_timers(&next.cluster))?;
         self.clusters.push(next.cluster)?;
         self.changed.push(next.changed)?;
         self.anew.push(next.anew || moved)?;
@@ -193,14 +185,11 @@ pub(crate) fn is_marked(marks: &[bool], place: usize) -> bool
     }
 }
 
-/// Whether a cluster has to take an update, where `timer` tells whether a timer of its trees may run.
-pub(crate) fn is_due(cluster: &Cluster, turn: Turn, timer: bool) -> bool
-    requires { timer ≡ false → quiet_in cluster.now.state ≡ true }
+/// Whether a cluster has to take an update.
+fn is_due(cluster: &Cluster, turn: Turn) -> bool
     ensures { result ≡ (turn.marked || not (stands_in turn.times.this cluster.now.state) || nat_lt turn.times.this.0 turn.times.last.0) }
 {
-    turn.marked
-        || !stands_with(cluster, turn.times.this, timer)
-        || turn.times.this.0 < turn.times.last.0
+    turn.marked || !stands(cluster, turn.times.this) || turn.times.this.0 < turn.times.last.0
 }
 
 /// Whether a cluster stays as it is: its entry does, and it doesn't have to take the update.
@@ -209,7 +198,7 @@ fn stays(cluster: &Cluster, entry: &ClusterEntry, turn: Turn) -> bool
     ensures due { result ≡ true → (turn.marked || not (stands_in turn.times.this cluster.now.state) || nat_lt turn.times.this.0 turn.times.last.0) ≡ false }
     ensures same { result ≡ true → cluster.now.entry ≡ entry.now }
 {
-    !is_due(cluster, turn, true) && (turn.is_known || cluster.entry.get().same(entry))
+    !is_due(cluster, turn) && (turn.is_known || cluster.entry.get().same(entry))
 }
 
 /// A cluster that stays as it is.

@@ -2,13 +2,13 @@
 ghost use Rattle.std.specs.Prelude.{◌≡◌, ◌↔◌, Some, None, Err, IsTrue, true, map, option_map, IfOk, IfSome, OnOk};
 ghost use Rattle.std.specs.Option.{option_and_then};
 ghost use Rattle.xds_config.specs.Configs.{AreLawfulLeaves};
-ghost use Rattle.cluster_tree.specs.StandingTrees.{standing, trees_of, cluster_after, view_in, stands_in};
+ghost use Rattle.cluster_tree.specs.StandingTrees.{standing, trees_of, cluster_after, view_in};
 ghost use Rattle.cluster_tree.specs.ClusterUsers.{FollowsEntry};
 ghost use Rattle.cluster_tree.specs.ViewChanges.{seen_of, tree_view_of, IsChangeMark, served_localities};
 ghost use Rattle.tree_steps.specs.Users.{Grows, ReadsLeaves};
 ghost use Rattle.tree_steps.specs.TreeSteps.{trees_after};
 
-use crate::tree_switch::{NextTrees, is_quiet, stand_at, trees_after, trees_view};
+use crate::tree_switch::{NextTrees, trees_after, trees_end, trees_view};
 use graceful_switch::Switch;
 use std::alloc::Global;
 use std::collections::BTreeMap;
@@ -22,8 +22,8 @@ use xds_config::{ClusterEntry, Leaves, Locality};
 pub(crate) struct Standing {
     pub(crate) trees: Switch<Tree>,
     pub(crate) view: Shared<TreeView>,
-    /// Whether no timer of the trees runs.
-    pub(crate) quiet: bool,
+    /// When the first timer of the trees that runs ends, or the last of all times where none runs.
+    pub(crate) until: Time,
 }
 
 /// A cluster of the configuration with its trees, or the reason why it has none.
@@ -125,13 +125,13 @@ fn standing_after(
 {
     let NextTrees { trees, picker } = trees_after(alloc, reports, now, leaves, trees_of(old))?;
     let view = trees_view(alloc, &trees, picker)?;
-    let quiet = is_quiet(&trees);
+    let until = trees_end(&trees);
     let next = shared_view(alloc, view, old)?;
     Ok(NextStanding {
         standing: Standing {
             trees,
             view: next.view,
-            quiet,
+            until,
         },
         changed: next.changed,
     })
@@ -230,16 +230,6 @@ pub(crate) fn view_of(cluster: &Cluster) -> Result<Result<Shared<TreeView>, Reas
     match &cluster.state {
         Ok(standing) => Ok(Ok(standing.get().view.share()?)),
         Err(reason) => Ok(Err(*reason)),
-    }
-}
-
-/// Whether no timer of the cluster's trees has ended at a time in milliseconds.
-pub(crate) fn stands_at(cluster: &Cluster, now: Time) -> bool
-    ensures { result ≡ stands_in now cluster.now.state }
-{
-    match &cluster.state {
-        Ok(standing) => standing.get().quiet || stand_at(&standing.get().trees, now),
-        Err(_) => true,
     }
 }
 

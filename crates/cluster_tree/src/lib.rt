@@ -2,6 +2,7 @@
 #![tactic(auto)]
 
 pub(crate) mod cluster_merge;
+pub(crate) mod cluster_steps;
 pub(crate) mod cluster_timers;
 pub(crate) mod cluster_trees;
 pub(crate) mod cluster_views;

@@ -4,12 +4,12 @@ ghost use Rattle.xds_config.specs.Configs.{AreLawfulLeaves};
 ghost use Rattle.graceful_switch.specs.Takeover.{has_to_wait, settled};
 ghost use Rattle.tree_steps.specs.TreePickers.{picker_at};
 ghost use Rattle.tree_steps.specs.TreeSteps.{state_of, trees_after, named_children};
-ghost use Rattle.tree_steps.specs.Quiet.{is_quiet, stand_at};
+ghost use Rattle.tree_steps.specs.TreeEnds.{trees_end};
 
 use graceful_switch::Switch;
 use std::alloc::Global;
 use std::collections::BTreeMap;
-use tree_steps::tree::{follow, has_kind, is_quiet_tree, named_children, runs_on, stay};
+use tree_steps::tree::{first_end, follow, has_kind, named_children, stay};
 use tree_steps::{NamedChild, NextTree, Tree, TreeView};
 use weighted_lb::Picker;
 use xc_base::{Address, List, Memory, Shared, State, Time};
@@ -127,28 +127,13 @@ pub(crate) fn trees_view(
     })
 }
 
-/// Whether no timer of the trees that runs has ended at a time in milliseconds.
-pub(crate) fn stand_at(trees: &Switch<Tree>, now: Time) -> bool
-    ensures { result ≡ stand_at now trees.now }
+/// When the first timer of the trees that runs ends, in milliseconds, or the last of all times where none runs.
+pub(crate) fn trees_end(trees: &Switch<Tree>) -> Time
+    ensures { result.0 ≡ trees_end trees.now }
 {
-    if !runs_on(trees.serving(), now) {
-        return false;
-    }
+    let serving = first_end(trees.serving());
     match trees.waiting() {
-        Some(tree) => runs_on(tree, now),
-        None => true,
-    }
-}
-
-/// Whether no timer of the trees runs.
-pub(crate) fn is_quiet(trees: &Switch<Tree>) -> bool
-    ensures { result ≡ is_quiet trees.now }
-{
-    if !is_quiet_tree(trees.serving()) {
-        return false;
-    }
-    match trees.waiting() {
-        Some(tree) => is_quiet_tree(tree),
-        None => true,
+        Some(tree) => Time(serving.0.min(first_end(tree).0)),
+        None => serving,
     }
 }

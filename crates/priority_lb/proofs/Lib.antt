@@ -1,3 +1,4 @@
 pub mod ChildLemmas
+pub mod EndLemmas
 pub mod HistoryLemmas
 pub mod WalkLemmas

@@ -3,7 +3,7 @@ ghost use Rattle.std.specs.Prelude.{◌≡◌, ◌<◌, ◌^◌, ◌&&◌, ◌||
 ghost use Rattle.std.specs.Option.{option_map_or, option_or};
 ghost use Rattle.std.specs.List.{position_from};
 ghost use Rattle.priority_lb.specs.ChildWalk.{chosen, stops, is_ready, is_connecting};
-ghost use Rattle.priority_lb.specs.RunningTimers.{run_on};
+ghost use Rattle.priority_lb.specs.RunningTimers.{first_end};
 ghost use Rattle.priority_lb.specs.Step.{fresh, seen, walk, step, carried, view_of};
 
 use crate::facts::{ChildFacts, FRESH, is_connecting, is_ready};
@@ -54,11 +54,12 @@ impl Children {
         update_all(&mut self.children, states, now)
     }
 
-    /// Whether no timer of a child that runs has ended at a time in milliseconds. It takes no memory.
-    pub fn run_on(&self, now: Time) -> bool
-        ensures { result ≡ run_on now self.now }
+    /// When the first timer of a child that runs ends, in milliseconds, or the last of all times where none runs. It takes no
+    /// memory.
+    pub fn first_end(&self) -> Time
+        ensures { result.0 ≡ first_end self.now }
     {
-        self.children.iter().all(|child| child.runs_on(now))
+        Time(first_end(&self.children))
     }
 
     /// What is seen of the child at a place, from 0. It takes no memory.
@@ -86,6 +87,17 @@ impl Children {
             children,
         })
     }
+}
+
+/// When the first timer of these children that runs ends.
+fn first_end(children: &[ChildFacts]) -> u64
+    ensures { result ≡ first_end children.now }
+{
+    let mut end = u64::MAX;
+    for child in children {
+        end = end.min(child.first_end().0);
+    }
+    end
 }
 
 /// The child that was at the place, or one that no update has seen.

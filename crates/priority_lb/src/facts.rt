@@ -2,7 +2,7 @@
 ghost use Rattle.std.specs.Prelude.{◌≡◌, ◌||◌};
 ghost use Rattle.std.specs.Option.{option_map_or};
 ghost use Rattle.priority_lb.specs.ChildWalk.{is_connecting, is_ready, stops};
-ghost use Rattle.priority_lb.specs.RunningTimers.{runs_on};
+ghost use Rattle.priority_lb.specs.RunningTimers.{child_end, deactivation_end, end_of, failover_end};
 ghost use Rattle.priority_lb.specs.Step.{fresh, is_within, was_reached, unused_after, there_after, connecting_after, timed_after, is_pending, facts_after, view_of};
 
 use crate::view::ChildView;
@@ -79,12 +79,33 @@ impl ChildFacts {
         }
     }
 
-    /// Whether its timers that run have not ended at a time.
-    pub(crate) fn runs_on(self, now: Time) -> bool
-        ensures { result ≡ runs_on now self }
+    /// When the first of its timers that run ends, or the last of all times where none runs.
+    pub(crate) fn first_end(self) -> Time
+        ensures { result.0 ≡ child_end self }
     {
-        (!self.pending || is_within_since(FAILOVER, now, self.connecting_since, false))
-            && (!self.there || is_within_since(RETENTION, now, self.unused_since, true))
+        Time(self.failover_end().min(self.deactivation_end()))
+    }
+
+    /// When its failover timer ends.
+    fn failover_end(self) -> u64
+        ensures { result ≡ failover_end self }
+    {
+        if self.pending {
+            end_since(FAILOVER, self.connecting_since, 0)
+        } else {
+            u64::MAX
+        }
+    }
+
+    /// When its deactivation timer ends.
+    fn deactivation_end(self) -> u64
+        ensures { result ≡ deactivation_end self }
+    {
+        if self.there {
+            end_since(RETENTION, self.unused_since, u64::MAX)
+        } else {
+            u64::MAX
+        }
     }
 
     /// Whether a walk has reached it since it was named.
@@ -175,4 +196,14 @@ fn is_pending(timed: bool, now: Time, connecting_since: Option<Time>) -> bool
     ensures { result ≡ is_pending timed now connecting_since }
 {
     timed && is_within_since(FAILOVER, now, connecting_since, false)
+}
+
+/// When a timer of so many milliseconds ends that began then, or the given time where none began.
+fn end_since(limit: u64, since: Option<Time>, never: u64) -> u64
+    ensures { result ≡ option_map_or (end_of limit) since never }
+{
+    match since {
+        Some(since) => since.0.saturating_add(limit),
+        None => never,
+    }
 }

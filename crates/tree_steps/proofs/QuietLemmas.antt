@@ -1,6 +1,6 @@
 -- An update that brings nothing new changes no child whose timers haven't ended.
-use Rattle.std.proofs.Common.{◌≡◌, ℕ, ◌≤◌, Bool, true, false, cond, not, ◌&&◌, ◌||◌, List, [], ◌∷◌, ◌++◌, map, Option, Some, None, refl, ap, ◌∙◌, arith}
-use Rattle.std.specs.Prelude.{is_some, unwrap_or}
+use Rattle.std.proofs.Common.{◌≡◌, ℕ, ◌≤◌, ◌<◌, Bool, true, false, cond, not, ◌&&◌, ◌||◌, List, [], ◌∷◌, ◌++◌, map, Option, Some, None, refl, ap, ◌∙◌, arith}
+use Rattle.std.specs.Prelude.{if◌then◌else◌, is_some, unwrap_or}
 use Rattle.std.specs.Option.{option_map_or, option_or}
 use Rattle.std.specs.List.{zip}
 use Rattle.std.proofs.lemmas.Bool.Decides.{nat_tests}
@@ -9,10 +9,10 @@ use Rattle.xc_base.specs.declared.names.Time.{Time}
 use Rattle.priority_lb.specs.declared.facts.ChildFacts.{ChildFacts}
 use Rattle.priority_lb.specs.ChildWalk.{is_connecting, is_ready, in_order, is_reached, is_behind_ready}
 use Rattle.priority_lb.specs.Step.{is_within, was_reached, unused_after, there_after, connecting_after, timed_after, is_pending, with_there, facts_after, Walked, seen, walked}
-use Rattle.priority_lb.specs.RunningTimers.{runs_on, run_on}
+use Rattle.priority_lb.specs.RunningTimers.{deactivation_end, end_of, failover_end, first_end, never, run_on, runs_on}
 use Rattle.graceful_switch.specs.Takeover.{Pair}
 use Rattle.tree_steps.specs.TreeSteps.{TreeFacts}
-use Rattle.tree_steps.specs.Quiet.{is_quiet_child, are_quiet, is_quiet, stand_at}
+use Rattle.tree_steps.specs.TreeEnds.{stand_at, trees_end}
 
 -- since when a child is out of use, and whether it is there, by what was so before
 abbrev unused_by : (R w B : Bool) → Option Time → Time → Option Time
@@ -120,31 +120,37 @@ walk_stays now later before (k ∷ ks) (s ∷ ss) le on =
     let tail = walk_stays now later (before ++ w ∷ []) ks ss le (second_of (runs_on later w.facts) (run_on later (map (λ v. v.facts) rest)) on) in
     ap (λ (v : Walked). v ∷ in_order (walked later) (before ++ v ∷ []) (zip (map (λ v. v.facts) rest) ss)) head ∙ ap (λ (vs : List Walked). w ∷ vs) tail
 
--- ---- where no timer runs, none has ended
-
-quiet_runs : (p a : Bool) (c u : Option Time) (later : Time) → (not p && not (a && is_some u)) ≡ true →
-    ((not p || option_map_or (λ since. is_within 10000 later since) c false) && (not a || option_map_or (λ since. is_within 900000 later since) u true)) ≡ true
-quiet_runs true a c u later quiet = absurd (cc)
-quiet_runs false false c u later quiet = refl
-quiet_runs false true c None later quiet = refl
-quiet_runs false true c (Some x) later quiet = absurd (cc)
+-- ---- before the first end no timer has ended
 
 both_true : (b q : Bool) → b ≡ true → q ≡ true → (b && q) ≡ true
 both_true true q one two = two
 both_true false q one two = absurd (cc)
 
-quiet_run : (later : Time) (children : List ChildFacts) → are_quiet children ≡ true → run_on later children ≡ true
-quiet_run later [] quiet = refl
-quiet_run later (k ∷ ks) quiet =
-    both_true (runs_on later k) (run_on later ks) (quiet_runs k.pending k.there k.connecting_since k.unused_since later (first_by (is_quiet_child k) (are_quiet ks) quiet))
-    (quiet_run later ks (second_of (is_quiet_child k) (are_quiet ks) quiet))
+failover_runs : (pending : Bool) (since : Option Time) (later : Time) → later.0 < (if pending then option_map_or (end_of 10000) since 0 else never) → (not pending || option_map_or (λ at. is_within 10000 later at) since false) ≡ true
+failover_runs false since later before = refl
+failover_runs true None later before = absurd (omega (arith, before))
+failover_runs true (Some at) later before = grind (arith, nat_tests)
 
-quiet_wait : (later : Time) (waiting : Option TreeFacts) → option_map_or (λ t. are_quiet t.children) waiting true ≡ true → option_map_or (λ t. run_on later t.children) waiting true ≡ true
-quiet_wait later None quiet = refl
-quiet_wait later (Some t) quiet = quiet_run later t.children quiet
+deactivation_runs : (there : Bool) (since : Option Time) (later : Time) → later.0 < (if there then option_map_or (end_of 900000) since never else never) → (not there || option_map_or (λ at. is_within 900000 later at) since true) ≡ true
+deactivation_runs false since later before = refl
+deactivation_runs true None later before = refl
+deactivation_runs true (Some at) later before = grind (arith, nat_tests)
 
-pub quiet_stand : (later : Time) (trees : Pair TreeFacts) → is_quiet trees ≡ true → stand_at later trees ≡ true
-quiet_stand later trees quiet =
-    let one : Bool = are_quiet trees.serving.children in
-    let other : Bool = option_map_or (λ t. are_quiet t.children) trees.waiting true in
-    both_true (run_on later trees.serving.children) (option_map_or (λ t. run_on later t.children) trees.waiting true) (quiet_run later trees.serving.children (first_by one other quiet)) (quiet_wait later trees.waiting (second_of one other quiet))
+run_before : (later : Time) (children : List ChildFacts) → later.0 < first_end children → run_on later children ≡ true
+run_before later [] before = refl
+run_before later (k ∷ ks) before =
+    let failover : later.0 < failover_end k = omega (arith, before) in
+    let deactivation : later.0 < deactivation_end k = omega (arith, before) in
+    both_true (runs_on later k) (run_on later ks)
+    (both_true (not k.pending || option_map_or (λ at. is_within 10000 later at) k.connecting_since false) (not k.there || option_map_or (λ at. is_within 900000 later at) k.unused_since true)
+    (failover_runs k.pending k.connecting_since later failover) (deactivation_runs k.there k.unused_since later deactivation))
+    (run_before later ks (omega (arith, before)))
+
+waits_before : (later : Time) (waiting : Option TreeFacts) → later.0 < option_map_or (λ t. first_end t.children) waiting never → option_map_or (λ t. run_on later t.children) waiting true ≡ true
+waits_before later None before = refl
+waits_before later (Some t) before = run_before later t.children before
+
+pub stand_before : (later : Time) (trees : Pair TreeFacts) → later.0 < trees_end trees → stand_at later trees ≡ true
+stand_before later trees before =
+    both_true (run_on later trees.serving.children) (option_map_or (λ t. run_on later t.children) trees.waiting true)
+    (run_before later trees.serving.children (omega (arith, before))) (waits_before later trees.waiting (omega (arith, before)))

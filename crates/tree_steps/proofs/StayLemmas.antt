@@ -19,7 +19,7 @@ use Rattle.tree_steps.specs.declared.tree_view.TreeView.{TreeView}
 use Rattle.tree_steps.specs.Reports.{Reports, children_of, name_of, names_of, states_in, child_in}
 use Rattle.tree_steps.specs.TreeSteps.{TreeFacts, begun, followed, stayed, state_of, is_same, has_kind, trees_after, named_children, trees_view, names_before, children_before}
 use Rattle.priority_lb.specs.RunningTimers.{run_on}
-use Rattle.tree_steps.specs.Quiet.{stand_at}
+use Rattle.tree_steps.specs.TreeEnds.{stand_at}
 use Rattle.tree_steps.specs.Agree.{AgreeOn}
 use Rattle.tree_steps.proofs.ChildLemmas.{length-begun}
 use Rattle.tree_steps.proofs.QuietLemmas.{walk_stays}

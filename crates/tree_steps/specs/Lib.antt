@@ -3,6 +3,6 @@ pub mod TreePickers
 pub mod Lent
 pub mod Agree
 pub mod TreeSteps
-pub mod Quiet
+pub mod TreeEnds
 pub mod TreeHistories
 pub mod Users

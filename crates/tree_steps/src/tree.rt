@@ -1,14 +1,13 @@
 //! A tree, and one update of it.
-ghost use Rattle.std.specs.Prelude.{◌≡◌, ◌<◌, ◌^◌, Some, [], length, get_or, slice_get, map, option_map, IfOk, OnOk, not, ◌&&◌};
+ghost use Rattle.std.specs.Prelude.{◌≡◌, ◌<◌, ◌^◌, Some, [], length, get_or, slice_get, map, option_map, IfOk, OnOk};
 ghost use Rattle.xds_config.specs.Configs.{AreLawfulLeaves};
-ghost use Rattle.priority_lb.specs.RunningTimers.{run_on};
+ghost use Rattle.priority_lb.specs.RunningTimers.{first_end};
 ghost use Rattle.priority_lb.specs.Step.{carried, fresh, view_of};
 ghost use Rattle.priority_lb.specs.ChildLaws.{places};
 ghost use Rattle.tree_steps.specs.Lent.{lent, all_lent};
 ghost use Rattle.tree_steps.specs.Reports.{name_of, children_of, at_priority, localities_of};
 ghost use Rattle.tree_steps.specs.TreePickers.{picker_at};
 ghost use Rattle.tree_steps.specs.TreeSteps.{names_before, children_before, followed, stayed, state_of, has_kind, named_children, chosen_localities};
-ghost use Rattle.tree_steps.specs.Quiet.{are_quiet};
 
 use crate::leaf_children::{Child, children_of, localities_of, places_in};
 use crate::pickers::balancing_states;
@@ -233,28 +232,9 @@ pub fn chosen_localities(alloc: Global, tree: &Tree) -> Result<Vec<&Locality>, M
     Ok(localities)
 }
 
-/// Whether no timer of a tree runs, so that time alone changes nothing of it.
-pub fn is_quiet_tree(tree: &Tree) -> bool
-    ensures { result ≡ are_quiet tree.now.children }
+/// When the first timer of a tree that runs ends, in milliseconds, or the last of all times where none runs. It takes no memory.
+pub fn first_end(tree: &Tree) -> Time
+    ensures { result.0 ≡ first_end tree.now.children }
 {
-    for place in 0..tree.count() {
-        if !is_quiet_child(tree.view(place)) {
-            return false;
-        }
-    }
-    true
-}
-
-/// Whether no timer of a tree that runs has ended at a time in milliseconds. It takes no memory.
-pub fn runs_on(tree: &Tree, now: Time) -> bool
-    ensures { result ≡ run_on now tree.now.children }
-{
-    tree.children.run_on(now)
-}
-
-/// Whether no timer of a child runs.
-fn is_quiet_child(view: ChildView) -> bool
-    ensures { result ≡ (not view.pending && not view.unused) }
-{
-    !view.pending && !view.unused
+    tree.children.first_end()
 }

@@ -74,7 +74,7 @@ turns_driven boot target past line event reply (Some p) turns turned old new con
     let e = driven 0 line event reply in
     let now_is : config_now (pages s (e ∷ past)) ≡ Some p.config = sym config_is ∙ at.config_is in
     renews s past e turns_at (record { event = event; reply = reply; what_is = refl; snapshot_is = snapshot }) (trees_serve_all (e ∷ past) (pages s (e ∷ past)) new p.config after now_is)
-    (λ same. marks_tell_served s past e event reply p.config p.marks.items refl at.marks_are (at.names_stay same) now_is)
+    (λ same. marks_tell_served s past e event reply p.config p.marks refl at.marks_are (at.names_stay same) now_is)
 
 -- ---- what is ready after the entry
 

@@ -25,7 +25,7 @@ use Rattle.book_picks.specs.declared.kept_turns.Turns.{Turns}
 pub record IsComplete (p : Published) : Type 0 where
   pub lawful : IsLawfulConfig p.config
   pub views : length p.views ≡ length p.config.clusters
-  pub marks : length p.marks.items ≡ length p.config.clusters
+  pub marks : length p.marks ≡ length p.config.clusters
   pub pickable : ArePickable p.views
 
 -- what is kept of picks follows what is published; where nothing is, it stays
@@ -33,7 +33,7 @@ abbrev pub Renews : Forest → Option Published → Turns → Turns → Type 0
 Renews forest None old new = new ≡ old
 Renews forest (Some p) old new =
     (s : Setting) (past : List Entry) (e : Entry) → AreTurnsAt (pages s past) old → IsPublishedAt s past e (snapshot_by p) → ServesLocalities forest p.config (trees_now (pages s (e ∷ past)))
-    → (p.is_renamed ≡ false → AreMarksOf p.marks.items p.config (pages s past) (trees_now (pages s (e ∷ past)))) → AreTurnsAt (pages s (e ∷ past)) new
+    → (p.is_renamed ≡ false → AreMarksOf p.marks p.config (pages s past) (trees_now (pages s (e ∷ past)))) → AreTurnsAt (pages s (e ∷ past)) new
 
 -- the snapshots that tickets read
 abbrev pub snapshot_in : Option (Where Snapshot) → Option Snapshot

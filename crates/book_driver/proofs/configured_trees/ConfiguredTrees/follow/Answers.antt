@@ -22,6 +22,9 @@ pub returns-in_ok-seen-in-None-clause-kept : goal.returns-in_ok-seen-in-None-cla
 returns-in_ok-seen-in-None-clause-kept c s past line reply page with of =
     c.in_ok-seen-in-None.ensures.kept s past line reply page with (subst (λ o. IsPageOf c.args.event.now past (pages s past) o page) c.in-None.ensures of)
 
+pub turn-requires-clause-shown : goal.turn-requires-clause-shown
+turn-requires-clause-shown c = subst (λ o. IfSome o (λ config. StandAsShown c.args.others.now c.args.self.now.config config)) c.in-Some.ensures.0 c.requires.others
+
 pub turn-requires-clause-others : goal.turn-requires-clause-others
 turn-requires-clause-others c =
     entries_stay c.args.others.now c.args.self.now.config c.in-Some.config c.args.self.now.trees.trees.clusters c.requires.entries

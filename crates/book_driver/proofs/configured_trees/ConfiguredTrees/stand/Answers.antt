@@ -3,7 +3,7 @@ use Rattle.std.specs.Prelude.{Some}
 use Rattle.cluster_tree.specs.ViewChanges.{IsChangeMark}
 use Rattle.xds_history.specs.Pages.{pages}
 use Rattle.xds_history.specs.Page.{config_now}
-use Rattle.book_trees.specs.ReportedLaws.{any_differs, stands_now}
+use Rattle.book_trees.specs.ReportedLaws.{stands_now}
 use Rattle.book_trees.specs.TreesKept.{cluster_names}
 use Rattle.book_trees.proofs.FollowLemmas.{lawful_now}
 use Rattle.book_trees.proofs.MarkedLemmas.{marks_tell_change}
@@ -19,8 +19,8 @@ returns-clause-seen c s past config with same =
       views_are = c.in_ok-seen.ensures.views past (pages s past) config with.trees_are stands;
       pickable = c.in_ok-seen.ensures.pickable;
       differs_is =
-          subst (λ b. IsChangeMark b (stands_now past (pages s past)) (config, c.in_ok-seen.seen.views)) (sym (c.differs.ensures ∙ ap (any_differs false) c.deref.ensures.value))
-          (marks_tell_change past (pages s past) config c.in_ok-seen.seen.views c.in_ok-seen.seen.changed.items false lawful marked (old_mark (config_now (pages s past)) config stands));
+          subst (λ b. IsChangeMark b (stands_now past (pages s past)) (config, c.in_ok-seen.seen.views)) (sym c.differs.ensures)
+          (marks_tell_change past (pages s past) config c.in_ok-seen.seen.views c.in_ok-seen.seen.changed false lawful marked (old_mark (config_now (pages s past)) config stands));
       marks_are = c.in_ok-seen.ensures.still past (pages s past) config with.trees_are stands;
       names_stay = λ never. ap cluster_names stands;
     }

@@ -14,7 +14,7 @@ returns-clause-seen c s past with other = record {
   pickable = c.in_ok-seen.ensures.pickable;
   differs_is =
       let marked = c.in_ok-seen.ensures.changed past (pages s past) with.trees_are in
-      marks_tell_change past (pages s past) c.args.config c.in_ok-seen.field-0.seen.views c.in_ok-seen.field-0.seen.changed.items true c.requires.lawful marked
+      marks_tell_change past (pages s past) c.args.config c.in_ok-seen.field-0.seen.views c.in_ok-seen.field-0.seen.changed true c.requires.lawful marked
       (new_mark (config_now (pages s past)) c.args.config (λ e. other (with.config_is ∙ e)));
   marks_are = c.in_ok-seen.ensures.still past (pages s past) with.trees_are;
   names_stay = λ same. ap cluster_names (sym with.config_is) ∙ c.is_renamed-is_renamed.ensures same ∙ ap (λ (x : Config). cluster_names (Some x)) c.get.ensures;

@@ -1,4 +1,4 @@
-use Rattle.std.proofs.Common.{◌≡◌, true, rules, length, replicate, refl, ap, ◌∙◌}
+use Rattle.std.proofs.Common.{◌≡◌, length, refl, ap, ◌∙◌}
 use Rattle.std.specs.Map.{lookup}
 use Rattle.std.specs.Ordering.{is_eq}
 use Rattle.config_assembly.specs.Orders.{name_cmp}
@@ -10,9 +10,8 @@ use Rattle.book_picks.proofs.kept_turns.Turns.renew_all.Goals as goal
 pub returns : goal.returns
 returns c s past e are published serves =
     let bare : Turns = record { alloc = c.args.self.now.alloc; counts = c.args.self.now.counts; rows = c.new.result } in
-    let marks : c.in_ok-marks.marks.items ≡ replicate c.len.result true = search rules in
     let many : c.len.result ≡ length c.args.snapshot.now.config.clusters = c.len.ensures ∙ ap (λ x. length x.clusters) c.get.ensures in
-    remade (pages s past) (page_of s e e.what past (pages s past)) c.args.snapshot.now c.args.trees.now c.deref.result.now c.args.self.now bare c.renew_rows.new.self are (page_of_snapshot s past e c.args.snapshot.now published) serves refl
+    remade (pages s past) (page_of s e e.what past (pages s past)) c.args.snapshot.now c.args.trees.now c.in_ok-marks.marks c.args.self.now bare c.renew_rows.new.self are (page_of_snapshot s past e c.args.snapshot.now published) serves refl
     (λ name. ap (λ es. lookup (λ other. is_eq (name_cmp name other)) es) c.new.ensures.empty)
-    (all_marked c.deref.result.now c.len.result (length c.args.snapshot.now.config.clusters) (c.deref.ensures.value ∙ marks) many)
+    (all_marked c.in_ok-marks.marks c.len.result (length c.args.snapshot.now.config.clusters) c.in_ok-marks.ensures many)
     c.in_ok-renew_rows.ensures

@@ -1,22 +1,33 @@
-use Rattle.std.proofs.Common.{◌≡◌, ◌+◌, Some, sym, ap, ◌∙◌, subst}
+use Rattle.std.proofs.Common.{◌≡◌, ◌<◌, ℕ, Some, List, arith, length, get_or, sym, ap, ◌∙◌, subst}
 use Rattle.std.specs.Prelude.{slice_get}
-use Rattle.book_picks.proofs.RenewedLemmas.{AreRenewedTo, item_at, renewed_more, renewed_past, row_seen}
-use Rattle.book_picks.proofs.kept_turns.Turns.renew_rows.Goals.{then-marks-place+in_ok-renew_row, else-marks-place}
+use Rattle.std.proofs.lemmas.List.{get_or_default}
+use Rattle.std.proofs.lemmas.List.Elements.{Contains-get_or}
+use Rattle.xds_config.specs.declared.config.ClusterEntry.{ClusterEntry}
+use Rattle.book_picks.proofs.MarkedPlaces.{AreMarkedPlaces, place_in_turn}
+use Rattle.book_picks.proofs.RenewedLemmas.{AreRenewedTo, item_at, renewed_more, renewed_next, row_seen}
 use Rattle.book_picks.proofs.kept_turns.Turns.renew_rows.Goals as goal
 
 pub loop-place-preserved : goal.loop-place-preserved
 loop-place-preserved c =
-    elim c.if-marks-place.branch [
-      | then-marks-place+in_ok-renew_row w ↦
-          let own : slice_get c.args.snapshot.now.config.clusters c.loop-place.place ≡ Some w.get-then-marks-place.result.now =
-          item_at c.as_slice-entries.result.now c.args.snapshot.now.config.clusters c.loop-place.place w.index-entries-place.result (c.as_slice-entries.ensures ∙ ap (λ x. x.clusters) c.get.ensures) c.loop-place-test.true w.index-entries-place.is
-          ∙ ap (λ x. Some x) (sym w.get-then-marks-place.ensures) in
-          let seen : slice_get c.args.snapshot.now.trees c.loop-place.place ≡ Some w.at.result.now = w.at.ensures in
-          subst (λ t. AreRenewedTo (c.loop-place.place + 1) c.args.trees.now c.args.snapshot.now c.args.marks.now c.args.self.now t) (sym w.self-is)
-          (renewed_more c.loop-place.place c.args.trees.now c.args.snapshot.now c.args.marks.now c.args.self.now c.loop-place.self w.renew_row.new.self w.get-then-marks-place.result.now c.requires.lawful own
-          (row_seen w.renew_row.new.self w.get-then-marks-place.result.now.name c.loop-place.place c.args.trees.now c.args.snapshot.now w.at.result.now seen w.in_ok-renew_row.ensures.row)
-          w.in_ok-renew_row.ensures.others w.in_ok-renew_row.ensures.extends w.if-marks-place.true c.loop-place.invariant)
-      | else-marks-place w ↦
-          subst (λ t. AreRenewedTo (c.loop-place.place + 1) c.args.trees.now c.args.snapshot.now c.args.marks.now c.args.self.now t) (sym w.self-is)
-          (renewed_past c.loop-place.place c.args.trees.now c.args.snapshot.now c.args.marks.now c.args.self.now c.loop-place.self w.if-marks-place.false c.loop-place.invariant)
-    ]
+    let places : List ℕ = c.places-place-items.result.now in
+    let count : ℕ = length c.args.snapshot.now.config.clusters in
+    let turn : ℕ = c.loop-place.place-index in
+    let place : ℕ = get_or places turn 0 in
+    let cluster : ClusterEntry = c.get-in-loop-place.result.now in
+    let are : AreMarkedPlaces c.args.marks.now count places = record {
+      rising = c.places-place-items.ensures.rising;
+      within = λ k d lt. omega (arith, c.requires.marks, c.places-place-items.ensures.within k d lt);
+      marked = c.places-place-items.ensures.marked;
+    } in
+    let among : turn < length places = c.loop-place-test.true in
+    let is : place ≡ place_in_turn places count turn = get_or_default places turn 0 count among in
+    let there : place < count = are.within turn 0 among in
+    let entries : c.as_slice-entries.result.now ≡ c.args.snapshot.now.config.clusters = c.as_slice-entries.ensures ∙ ap (λ x. x.clusters) c.get.ensures in
+    let own : slice_get c.args.snapshot.now.config.clusters place ≡ Some cluster =
+    item_at c.as_slice-entries.result.now c.args.snapshot.now.config.clusters place c.index-entries-place.result entries (omega (arith, there, ap (λ es. length es) entries)) c.index-entries-place.is
+    ∙ ap (λ x. Some x) (sym c.get-in-loop-place.ensures) in
+    renewed_next places turn place c.args.trees.now c.args.snapshot.now c.args.marks.now c.args.self.now c.renew_row.new.self are among is
+    (renewed_more place c.args.trees.now c.args.snapshot.now c.args.marks.now c.args.self.now c.loop-place.self c.renew_row.new.self cluster c.requires.lawful own
+    (row_seen c.renew_row.new.self cluster.name place c.args.trees.now c.args.snapshot.now c.at.result.now c.at.ensures c.in_ok-renew_row.ensures.row)
+    c.in_ok-renew_row.ensures.others c.in_ok-renew_row.ensures.extends ((are.marked place).1 (Contains-get_or places turn 0 among))
+    (subst (λ p. AreRenewedTo p c.args.trees.now c.args.snapshot.now c.args.marks.now c.args.self.now c.loop-place.self) (sym is) c.loop-place.invariant))

@@ -8,11 +8,11 @@ returns-clause-views c = λ past ps at.
 
 pub returns-clause-changed : goal.returns-clause-changed
 returns-clause-changed c = λ past ps at.
-    marks_follow c.args.event.now past ps c.args.self.now c.args.config.now c.update.new.self c.in_ok-followed.followed.seen.views c.in_ok-followed.followed.seen.changed.items c.requires.lawful c.in_ok-followed.ensures.step c.in_ok-followed.ensures.views c.in_ok-followed.ensures.changed at
+    marks_follow c.args.event.now past ps c.args.self.now c.args.config.now c.update.new.self c.in_ok-followed.followed.seen.views c.in_ok-followed.followed.seen.changed c.requires.lawful c.in_ok-followed.ensures.step c.in_ok-followed.ensures.views c.in_ok-followed.ensures.changed at
 
 pub returns-clause-still : goal.returns-clause-still
 returns-clause-still c = λ past ps at.
-    stay_in_place c.args.event.now past ps c.args.self.now c.args.config.now c.update.new.self c.in_ok-followed.followed.anew.items c.requires.lawful c.in_ok-followed.ensures.step c.in_ok-followed.ensures.anew at
+    stay_in_place c.args.event.now past ps c.args.self.now c.args.config.now c.update.new.self c.in_ok-followed.followed.anew c.requires.lawful c.in_ok-followed.ensures.step c.in_ok-followed.ensures.anew at
 
 pub returns-clause-kept : goal.returns-clause-kept
 returns-clause-kept c = λ past ps actor line reply page at of.

@@ -1,70 +1,67 @@
-use Rattle.std.proofs.Common.{◌≡◌, List, length, sym, ap, ◌∙◌, subst, arith}
-use Rattle.std.proofs.lemmas.Grind.{common_steps}
+use Rattle.std.proofs.Common.{◌≡◌, List, sym, ap, ◌∙◌, subst, arith}
 use Rattle.cluster_tree.specs.declared.cluster_trees.Cluster.{Cluster}
-use Rattle.cluster_tree.specs.StandingTrees.{Forest, ChangesAt, entries_of, views_of}
-use Rattle.cluster_tree.specs.KeptViews.{AreViewsIn}
-use Rattle.cluster_tree.proofs.ForestLemmas.{others_stay, indexed_stepped, steps_are, updated_with, views_pickable}
-use Rattle.cluster_tree.proofs.ViewLemmas.{none_in, stay_in_place, views_in}
+use Rattle.tree_steps.specs.Users.{UserList}
+use Rattle.cluster_tree.specs.StandingTrees.{Forest, ChangesAt, clusters_after, entries_of, forest_after, views_of}
+use Rattle.cluster_tree.specs.ClusterTimers.{AreLeft}
+use Rattle.cluster_tree.specs.ClusterUsers.{AreIndexed}
+use Rattle.cluster_tree.proofs.ForestLemmas.{indexed_stepped, updated_with, views_pickable}
+use Rattle.cluster_tree.proofs.StepLemmas.{all_took, are_stepped}
+use Rattle.cluster_tree.proofs.ViewLemmas.{stay_in_place, views_in}
 use Rattle.cluster_tree.proofs.trees.Trees.update_states.Goals as goal
 
-pub step_clusters-requires-clause-others : goal.step_clusters-requires-clause-others
-step_clusters-requires-clause-others c =
-    let asked : ChangesAt c.args.changed.now c.args.reports.now.entries (record { now = c.self.inside.time; clusters = c.self.inside.clusters.items }) =
-    subst (λ (f : Forest). ChangesAt c.args.changed.now c.args.reports.now.entries f) (sym c.self.view_is) c.requires in
-    let long : length c.in_ok-marks.marks.items ≡ length c.self.inside.clusters.items = grind (arith, common_steps) in
-    rw (c.deref.ensures.value)
-    (others_stay c.self.inside.users c.args.changed.now c.in_ok-marks.marks.items c.self.inside.time c.args.now asked.0 c.args.reports.now.entries c.self.inside.clusters.items asked.1.0 c.self.invariant.indexed c.in_ok-marks.ensures.marked long asked.1.1 asked.2)
+pub due_places-requires-clause-few : goal.due_places-requires-clause-few
+due_places-requires-clause-few c = omega (arith, c.deref.ensures.len, c.clusters.invariant.few)
 
-pub invariant_of-self : goal.invariant_of-self
-invariant_of-self c = record {
-  indexed = indexed_stepped c.self.inside.users c.args.now c.args.reports.now.entries c.self.inside.clusters.items c.step_clusters.new.clusters.items c.self.invariant.indexed c.in_err-changed.ensures.each;
-  quiet = c.in_err-changed.ensures.quiet;
-  seen = none_in c.step_clusters.new.clusters.items c.replace-before.new.dest (c.replace-before.ensures.after ∙ c.new.ensures);
+pub views_after-requires : goal.views_after-requires
+views_after-requires c = record {
+  stay = rw (c.deref-2.ensures.value)
+      (stay_in_place c.step_clusters.new.stepped.changed c.clusters.inside.seen c.clusters.inside.clusters.items c.step_clusters.new.stepped.clusters.items c.in_ok-step_clusters.ensures.clusters.count
+      c.in_ok-step_clusters.ensures.changed c.clusters.invariant.seen);
 }
 
-pub invariant_of-self-2 : goal.invariant_of-self-2
-invariant_of-self-2 c = record {
-  indexed = indexed_stepped c.self.inside.users c.args.now c.args.reports.now.entries c.self.inside.clusters.items c.step_clusters.new.clusters.items c.self.invariant.indexed c.in_ok-changed.ensures.each;
-  quiet = c.in_ok-changed.ensures.quiet;
-  seen = views_in c.step_clusters.new.clusters.items c.in_ok-self-inside.field-0 (c.in_ok-self-inside.ensures ∙ (c.in_ok-views.ensures ∙ ap views_of c.deref-2.ensures.value));
+pub invariant_of-drop : goal.invariant_of-drop
+invariant_of-drop c = record {
+  few = omega (arith, c.clusters.invariant.few, c.in_ok-step_clusters.ensures.clusters.count);
+  indexed = subst (λ (users : UserList). AreIndexed users c.step_clusters.new.stepped.clusters.items) (sym c.due_places.ensures.users) (indexed_stepped c.clusters.inside.index.users c.args.now c.args.reports.now.entries c.clusters.inside.clusters.items c.step_clusters.new.stepped.clusters.items c.clusters.invariant.indexed
+      (are_stepped c.args.now c.args.reports.now.entries c.in_ok-due.due c.clusters.inside.clusters.items c.step_clusters.new.stepped.clusters.items c.in_ok-step_clusters.ensures.clusters));
+  timed = c.in_ok-step_clusters.ensures.timed;
+  seen = views_in c.step_clusters.new.stepped.clusters.items c.in_ok-share.field-0 (c.in_ok-share.ensures ∙ (c.in_ok-views.ensures ∙ ap views_of c.deref-2.ensures.value));
 }
-
-pub views_after-requires-clause-stay : goal.views_after-requires-clause-stay
-views_after-requires-clause-stay c =
-    rw (c.deref-2.ensures.value, c.deref-3.ensures.value)
-    (stay_in_place c.in_ok-changed.changed.items c.replace-before.result c.self.inside.clusters.items c.step_clusters.new.clusters.items c.in_ok-changed.ensures.each.count c.in_ok-changed.ensures.changed
-    (subst (λ views. AreViewsIn views c.self.inside.clusters.items) (sym c.replace-before.ensures.value) c.self.invariant.seen))
 
 pub returns-clause-step : goal.returns-clause-step
 returns-clause-step c =
+    let forest : Forest = record { now = c.clusters.inside.time; clusters = c.clusters.inside.clusters.items } in
+    let was : forest ≡ c.args.self.now = c.clusters.view_is ∙ c.replace-2.ensures.value in
+    let new : List Cluster = c.step_clusters.new.stepped.clusters.items in
+    let is : new ≡ clusters_after c.args.now c.args.reports.now.entries (entries_of forest.clusters) forest.clusters =
+    all_took c.clusters.inside.index.users c.args.changed.now c.args.now c.args.reports.now.entries c.in_ok-due.due forest new c.clusters.invariant.indexed
+    (subst (λ (f : Forest). ChangesAt c.args.changed.now c.args.reports.now.entries f) (sym was) c.requires)
+    (subst (λ (cs : List Cluster). AreLeft forest.now c.args.now c.clusters.inside.index.users c.args.changed.now c.in_ok-due.due cs) c.deref.ensures.value c.in_ok-due.ensures.left) c.in_ok-step_clusters.ensures.clusters in
     let make : List Cluster → Forest = λ cs. record { now = c.args.now; clusters = cs } in
-    rw (← c.self.view_is) (ap make (c.in_ok-changed.ensures.all ∙ steps_are c.args.now c.args.reports.now.entries c.self.inside.clusters.items c.self.invariant.indexed.rising))
-
-pub returns-clause-updated : goal.returns-clause-updated
-returns-clause-updated c = (
-  c.self.inside.clusters.items,
-  updated_with c.args.now c.args.reports.now.entries (entries_of c.self.inside.clusters.items) c.self.inside.clusters.items c.step_clusters.new.clusters.items
-      (c.in_ok-changed.ensures.all ∙ steps_are c.args.now c.args.reports.now.entries c.self.inside.clusters.items c.self.invariant.indexed.rising),
-)
-
-pub invariant_of-self-in_err-views : goal.invariant_of-self-in_err-views
-invariant_of-self-in_err-views c = record {
-  indexed = indexed_stepped c.self.inside.users c.args.now c.args.reports.now.entries c.self.inside.clusters.items c.step_clusters.new.clusters.items c.self.invariant.indexed c.in_ok-changed.ensures.each;
-  quiet = c.in_ok-changed.ensures.quiet;
-  seen = none_in c.step_clusters.new.clusters.items c.replace-before.new.dest (c.replace-before.ensures.after ∙ c.new.ensures);
-}
-
-pub invariant_of-self-in_err-self-inside : goal.invariant_of-self-in_err-self-inside
-invariant_of-self-in_err-self-inside c = record {
-  indexed = indexed_stepped c.self.inside.users c.args.now c.args.reports.now.entries c.self.inside.clusters.items c.step_clusters.new.clusters.items c.self.invariant.indexed c.in_ok-changed.ensures.each;
-  quiet = c.in_ok-changed.ensures.quiet;
-  seen = none_in c.step_clusters.new.clusters.items c.replace-before.new.dest (c.replace-before.ensures.after ∙ c.new.ensures);
-}
+    subst (λ (f : Forest). make new ≡ forest_after c.args.now c.args.reports.now.entries (entries_of f.clusters) f) was (ap make is)
 
 pub returns-clause-pickable : goal.returns-clause-pickable
 returns-clause-pickable c =
+    let forest : Forest = record { now = c.clusters.inside.time; clusters = c.clusters.inside.clusters.items } in
+    let was : forest ≡ c.args.self.now = c.clusters.view_is ∙ c.replace-2.ensures.value in
+    let new : List Cluster = c.step_clusters.new.stepped.clusters.items in
+    let is : new ≡ clusters_after c.args.now c.args.reports.now.entries (entries_of forest.clusters) forest.clusters =
+    all_took c.clusters.inside.index.users c.args.changed.now c.args.now c.args.reports.now.entries c.in_ok-due.due forest new c.clusters.invariant.indexed
+    (subst (λ (f : Forest). ChangesAt c.args.changed.now c.args.reports.now.entries f) (sym was) c.requires)
+    (subst (λ (cs : List Cluster). AreLeft forest.now c.args.now c.clusters.inside.index.users c.args.changed.now c.in_ok-due.due cs) c.deref.ensures.value c.in_ok-due.ensures.left) c.in_ok-step_clusters.ensures.clusters in
     rw (c.in_ok-views.ensures, c.deref-2.ensures.value)
-    (views_pickable c.self.inside.users c.args.now c.args.reports.now.entries c.step_clusters.new.clusters.items c.self.inside.clusters.items
-    (indexed_stepped c.self.inside.users c.args.now c.args.reports.now.entries c.self.inside.clusters.items c.step_clusters.new.clusters.items c.self.invariant.indexed c.in_ok-changed.ensures.each)
-    (updated_with c.args.now c.args.reports.now.entries (entries_of c.self.inside.clusters.items) c.self.inside.clusters.items c.step_clusters.new.clusters.items
-    (c.in_ok-changed.ensures.all ∙ steps_are c.args.now c.args.reports.now.entries c.self.inside.clusters.items c.self.invariant.indexed.rising)))
+    (views_pickable c.clusters.inside.index.users c.args.now c.args.reports.now.entries new forest.clusters
+    (indexed_stepped c.clusters.inside.index.users c.args.now c.args.reports.now.entries c.clusters.inside.clusters.items c.step_clusters.new.stepped.clusters.items c.clusters.invariant.indexed
+    (are_stepped c.args.now c.args.reports.now.entries c.in_ok-due.due c.clusters.inside.clusters.items c.step_clusters.new.stepped.clusters.items c.in_ok-step_clusters.ensures.clusters))
+    (updated_with c.args.now c.args.reports.now.entries (entries_of forest.clusters) forest.clusters new is))
+
+pub returns-clause-updated : goal.returns-clause-updated
+returns-clause-updated c =
+    let forest : Forest = record { now = c.clusters.inside.time; clusters = c.clusters.inside.clusters.items } in
+    let was : forest ≡ c.args.self.now = c.clusters.view_is ∙ c.replace-2.ensures.value in
+    let new : List Cluster = c.step_clusters.new.stepped.clusters.items in
+    let is : new ≡ clusters_after c.args.now c.args.reports.now.entries (entries_of forest.clusters) forest.clusters =
+    all_took c.clusters.inside.index.users c.args.changed.now c.args.now c.args.reports.now.entries c.in_ok-due.due forest new c.clusters.invariant.indexed
+    (subst (λ (f : Forest). ChangesAt c.args.changed.now c.args.reports.now.entries f) (sym was) c.requires)
+    (subst (λ (cs : List Cluster). AreLeft forest.now c.args.now c.clusters.inside.index.users c.args.changed.now c.in_ok-due.due cs) c.deref.ensures.value c.in_ok-due.ensures.left) c.in_ok-step_clusters.ensures.clusters in
+    (forest.clusters, updated_with c.args.now c.args.reports.now.entries (entries_of forest.clusters) forest.clusters new is)
