@@ -82,7 +82,7 @@ fn leave(session: Session, played: Played) {
     mem::forget(played);
 }
 
-/// Reads a session from the source, plays it, and writes its report to the sink.
+/// Reads a session from the source, plays it, and writes its report to the sink. The bytes are given back before it is played.
 fn replay<S: Source, K: Sink, P: Patterns, G: Gate + Sync, R: Threads + Wait + Sync>(
     rt: &R,
     alloc: Global,
@@ -113,6 +113,7 @@ fn replay<S: Source, K: Sink, P: Patterns, G: Gate + Sync, R: Threads + Wait + S
         Ok(session) => session,
         Err(fault) => return status_of(fault),
     };
+    drop(bytes);
     match play_on_threads(rt, alloc, &session, gate, patterns) {
         Ok(played) => {
             let status = report(alloc, &session, &played, sink);

@@ -29,5 +29,5 @@ pub returns-in-Ok-play_on_threads-clause-refused : goal.returns-in-Ok-play_on_th
 returns-in-Ok-play_on_threads-clause-refused g c = λ _.
     never_refused (g.S.Source.left c.args.source.now) c.deref.result.now c.in-Ok-session_in.session _ (rw c.deref.ensures.value c.in-Ok.ensures.bytes) c.in-Ok-session_in.ensures.gives
 
-pub returns-clause-begun : goal.returns-clause-begun
-returns-clause-begun g c = λ _. nothing_begun (g.S.Source.left c.args.source.now) (g.K.Sink.held c.args.sink.now) (g.P.Patterns.refused c.args.patterns.now) (g.P.Patterns.refused c.play_on_threads.new.patterns)
+pub returns-in-Err-play_on_threads-clause-begun : goal.returns-in-Err-play_on_threads-clause-begun
+returns-in-Err-play_on_threads-clause-begun g c = λ _. nothing_begun (g.S.Source.left c.args.source.now) (g.K.Sink.held c.args.sink.now) (g.P.Patterns.refused c.args.patterns.now) (g.P.Patterns.refused c.play_on_threads.new.patterns)
