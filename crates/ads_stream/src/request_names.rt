@@ -1,16 +1,32 @@
 //! What a stream is to ask for.
-use xc_base::{List, Text};
+ghost use Rattle.std.specs.Prelude.{◌≡◌, IfOk};
+
+use xc_base::{List, Memory, Shared, Text};
 
 /// The names that are watched at an authority, by their kind. Each list is sorted by bytes and has a
-/// name once.
+/// name once. The requests that ask for them share the lists.
 #[derive(Drop)]
 pub struct Names {
     /// The Listener resources.
-    pub listener: List<Text>,
+    pub listener: Shared<List<Text>>,
     /// The Route resources.
-    pub route: List<Text>,
+    pub route: Shared<List<Text>>,
     /// The Cluster resources.
-    pub cluster: List<Text>,
+    pub cluster: Shared<List<Text>>,
     /// The Endpoint resources.
-    pub endpoint: List<Text>,
+    pub endpoint: Shared<List<Text>>,
+}
+
+impl Names {
+    /// The same names once more. No name is copied; it fails only where a count of owners is at its end.
+    pub fn share(&self) -> Result<Names, Memory>
+        ensures { IfOk result (λ names. names ≡ self.now) }
+    {
+        Ok(Names {
+            listener: self.listener.share()?,
+            route: self.route.share()?,
+            cluster: self.cluster.share()?,
+            endpoint: self.endpoint.share()?,
+        })
+    }
 }

@@ -9,7 +9,7 @@ use crate::verdict::Verdict;
 use proto_discovery::Request;
 use std::alloc::Global;
 use std::marker::Model;
-use xc_base::{Kind, List, Memory, Node, Text};
+use xc_base::{Kind, List, Memory, Node, Shared, Text};
 
 /// Where a stream stands.
 #[derive(Drop)]
@@ -46,7 +46,6 @@ impl StreamState {
     /// Where the stream stands once the requests for these names have been sent.
     fn state_after_requests(
         &self,
-        alloc: Global,
         now_watched: &Names,
         is_greeted: bool,
     ) -> Result<StreamState, Memory>
@@ -56,10 +55,10 @@ impl StreamState {
             node: self.node.clone()?,
             is_up: self.is_up,
             is_greeted,
-            listener: self.listener.after_request(alloc, &now_watched.listener)?,
-            route: self.route.after_request(alloc, &now_watched.route)?,
-            cluster: self.cluster.after_request(alloc, &now_watched.cluster)?,
-            endpoint: self.endpoint.after_request(alloc, &now_watched.endpoint)?,
+            listener: self.listener.after_request(&now_watched.listener)?,
+            route: self.route.after_request(&now_watched.route)?,
+            cluster: self.cluster.after_request(&now_watched.cluster)?,
+            endpoint: self.endpoint.after_request(&now_watched.endpoint)?,
         })
     }
 }
@@ -183,7 +182,7 @@ impl Stream {
     fn add_request(
         &self,
         kind: Kind,
-        names: &List<Text>,
+        names: &Shared<List<Text>>,
         requests: &mut List<Request>,
     ) -> Result<(), Memory>
         ensures { OnOk result (requests.new ≡ with_request self.now kind names.now requests.old) }
@@ -225,9 +224,7 @@ impl Stream {
             return Ok(requests);
         }
         let is_greeted = self.state.is_greeted || !requests.as_slice().is_empty();
-        self.state = self
-            .state
-            .state_after_requests(self.alloc, now_watched, is_greeted)?;
+        self.state = self.state.state_after_requests(now_watched, is_greeted)?;
         Ok(requests)
     }
 }

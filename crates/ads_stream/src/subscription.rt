@@ -5,7 +5,6 @@ ghost use Rattle.ads_stream.specs.StreamSteps.{fresh, reopened, verdict_by, verd
 
 use crate::verdict::Verdict;
 use proto_discovery::Request;
-use std::alloc::Global;
 use std::mem::replace;
 use xc_base::{Kind, List, Memory, Node, Shared, Text};
 
@@ -27,13 +26,6 @@ pub struct Subscription {
     pub asked: Option<Shared<List<Text>>>,
     /// What the last response is to be answered.
     pub answer: Option<Answer>,
-}
-
-/// A copy of the names.
-fn copy_of(names: &List<Text>) -> Result<List<Text>, Memory>
-    ensures { IfOk result (λ copy. copy ≡ names.now) }
-{
-    names.clone()
 }
 
 /// The answer to a response.
@@ -130,17 +122,17 @@ impl Subscription {
     }
 
     /// Whether the names differ from those that were sent last. Before any request those are none.
-    fn differs(&self, names: &List<Text>) -> bool
+    fn differs(&self, names: &Shared<List<Text>>) -> bool
         ensures { result ≡ differs self.now.asked names.now }
     {
         match &self.asked {
-            Some(asked) => asked.get() != names,
-            None => !names.as_slice().is_empty(),
+            Some(asked) => asked != names,
+            None => !names.get().as_slice().is_empty(),
         }
     }
 
     /// Whether a request is due: a response is to be answered, or the names differ.
-    pub(crate) fn is_due(&self, names: &List<Text>) -> bool
+    pub(crate) fn is_due(&self, names: &Shared<List<Text>>) -> bool
         ensures { result ≡ is_due self.now names.now }
     {
         self.answer.is_some() || self.differs(names)
@@ -160,7 +152,7 @@ impl Subscription {
     pub(crate) fn request(
         &self,
         kind: Kind,
-        names: &List<Text>,
+        names: &Shared<List<Text>>,
         node: Option<Node>,
     ) -> Result<Request, Memory>
         ensures { IfOk result (λ request. request ≡ request_of self.now kind names.now node) }
@@ -169,7 +161,7 @@ impl Subscription {
             kind,
             version: self.version.clone()?,
             nonce: self.nonce.clone()?,
-            names: copy_of(names)?,
+            names: names.share()?,
             node,
             error: self.error()?,
         })
@@ -178,30 +170,25 @@ impl Subscription {
     /// The names that were sent last, once these are sent where a request is due.
     fn names_after_request(
         &self,
-        alloc: Global,
-        names: &List<Text>,
+        names: &Shared<List<Text>>,
     ) -> Result<Option<Shared<List<Text>>>, Memory>
         ensures { IfOk result (λ asked. asked ≡ names_after_request self.now names.now) }
     {
         if self.is_due(names) {
-            Ok(Some(Shared::new(alloc, copy_of(names)?)?))
+            Ok(Some(names.share()?))
         } else {
             self.asked.clone()
         }
     }
 
     /// What is known once the request that is due has been sent.
-    pub(crate) fn after_request(
-        &self,
-        alloc: Global,
-        names: &List<Text>,
-    ) -> Result<Subscription, Memory>
+    pub(crate) fn after_request(&self, names: &Shared<List<Text>>) -> Result<Subscription, Memory>
         ensures { IfOk result (λ s. s ≡ after_request self.now names.now) }
     {
         Ok(Subscription {
             version: self.version.clone()?,
             nonce: self.nonce.clone()?,
-            asked: self.names_after_request(alloc, names)?,
+            asked: self.names_after_request(names)?,
             answer: None,
         })
     }

@@ -10,7 +10,8 @@ use Rattle.call_journal.specs.declared.reply.Sent.{Sent}
 use Rattle.call_journal.specs.declared.entry.Entry.{Entry}
 use Rattle.call_journal.specs.declared.entry.What.{What}
 use Rattle.session_lines.specs.Lines.{lines_of}
-use Rattle.report_parts.specs.ReportWords.{authority_text, escaped}
+use Rattle.tree_text.specs.Escapes.{escaped}
+use Rattle.report_parts.specs.ReportWords.{authority_text}
 use Rattle.report_parts.specs.Driver.{driver_line, event_text, missing_text, outcome_text}
 use Rattle.report_parts.specs.RequestText.{pattern_line, request_line, request_text}
 use Rattle.report_parts.specs.Snapshots.{clusters_from, front_text, snapshot_line, snapshot_lines}

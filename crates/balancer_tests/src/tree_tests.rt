@@ -9,7 +9,10 @@ use xc_base::{Reason, State, Time, address};
 /// Whether picks of the one cluster fail since its endpoints aren't there.
 fn is_absent(updated: &UpdatedViews) -> bool {
     match updated.views.get(0) {
-        Some(Ok(view)) => matches!(view.get().picker.body, PickBody::Fail(Reason::Absent)),
+        Some(Ok(view)) => matches!(
+            view.get().view().picker.body,
+            PickBody::Fail(Reason::Absent)
+        ),
         _ => false,
     }
 }
@@ -21,8 +24,8 @@ fn trees_take_a_configuration_and_reports(rt: HostRuntime) -> Result<(), Fail> {
     reports.insert(address(rt.alloc(), "10.0.0.1:80")?, State::Ready)?;
     let mut trees = Trees::new(rt.alloc());
     let first = trees.update(&config, &reports, Time(0), &[], &[true])?;
-    assert!(rt; is_absent(&first.seen) && first.seen.changed.is_marked(0));
-    assert!(rt; first.anew.is_marked(0));
+    assert!(rt; is_absent(&first.seen) && matches!(first.seen.changed.places(), [0]));
+    assert!(rt; matches!(first.anew.places(), [0]));
     let second = trees.update_states(&reports, Time(1), &[])?;
     assert!(rt; is_absent(&second) && second.changed.are_none());
     let third = trees.update(&config, &reports, Time(2), &[], &[true])?;

@@ -24,7 +24,7 @@ use book_trees::due_numbers::{differs, due_number};
 use call_journal::DriverEvent;
 use cluster_tree::FollowedViews;
 use place_marks::Marks;
-use tree_steps::TreeView;
+use tree_text::ShownTree;
 use xc_base::{Memory, Reason, Same, Shared};
 use xds_config::{ClusterEntry, Config};
 
@@ -41,7 +41,7 @@ pub struct ConfiguredTrees {
 #[derive(Drop)]
 pub struct Seen {
     /// What is seen of each cluster, or the reason why it has no trees.
-    pub views: BlockList<Result<Shared<TreeView>, Reason>>,
+    pub views: BlockList<Result<Shared<ShownTree>, Reason>>,
     /// Whether the configuration or a view differs from before.
     pub differs: bool,
     /// For each cluster, whether it may be another one than stood at its place before, or whether something else may be seen
@@ -59,7 +59,7 @@ pub struct Published {
     /// The configuration.
     pub config: Shared<Config>,
     /// What is seen of each cluster, or the reason why it has no trees.
-    pub views: BlockList<Result<Shared<TreeView>, Reason>>,
+    pub views: BlockList<Result<Shared<ShownTree>, Reason>>,
     /// For each cluster, whether it may be another one than stood at its place before, or whether something else may be seen
     /// of it or served by it.
     pub marks: Marks,

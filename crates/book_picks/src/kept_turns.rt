@@ -16,9 +16,10 @@ use crate::cluster_rows::Row;
 use crate::part_picks::pick_in;
 use crate::place_counts::PlaceCounts;
 use call_journal::CallerReply;
-use cluster_tree::{Snapshot, TreeView};
+use cluster_tree::Snapshot;
 use std::alloc::Global;
 use std::collections::BTreeMap;
+use tree_text::ShownTree;
 use xc_base::{Reason, Shared, Text};
 
 /// How many picks took an endpoint in each place where endpoints take turns, and where the counts of each cluster of the
@@ -32,7 +33,7 @@ pub struct Turns {
 }
 
 /// What is seen of the cluster at a place.
-fn view_at(snapshot: &Snapshot, place: u32) -> Option<&Result<Shared<TreeView>, Reason>>
+fn view_at(snapshot: &Snapshot, place: u32) -> Option<&Result<Shared<ShownTree>, Reason>>
     ensures { option_copied result ≡ slice_get snapshot.now.trees place }
 {
     snapshot.trees.get(place as usize)
@@ -85,7 +86,10 @@ impl Turns {
             return CallerReply::NotHeld;
         };
         match view {
-            Ok(view) => pick_in(&mut self.counts, row, snapshot.number, view.get(), word),
+            Ok(view) => {
+                let view = view.get().view();
+                pick_in(&mut self.counts, row, snapshot.number, view, word)
+            }
             Err(reason) => CallerReply::Fail {
                 snapshot: snapshot.number,
                 reason: *reason,

@@ -14,18 +14,19 @@ ghost use Rattle.book_picks.specs.RenewedRows.{AreMarksOf, AreRenewed, IsPublish
 
 use crate::cluster_rows::{Row, indexes_of};
 use crate::kept_turns::Turns;
-use cluster_tree::{NamedChild, Snapshot, TreeView, Trees};
+use cluster_tree::{NamedChild, Snapshot, Trees};
 use place_marks::Marks;
 use std::collections::BTreeMap;
+use tree_text::ShownTree;
 use xc_base::{Memory, Reason, Shared, Text};
 
 /// The chosen child that is seen of a cluster.
-fn chosen_child(seen: &Result<Shared<TreeView>, Reason>) -> Option<&NamedChild>
+fn chosen_child(seen: &Result<Shared<ShownTree>, Reason>) -> Option<&NamedChild>
     ensures { option_copied result ≡ child_seen seen.now }
 {
     match seen {
         Ok(view) => {
-            let view = view.get();
+            let view = view.get().view();
             view.children.as_slice().get(view.chosen as usize)
         }
         Err(_) => None,
@@ -95,7 +96,7 @@ impl Turns {
         trees: &Trees,
         place: u32,
         cluster: &Text,
-        seen: &Result<Shared<TreeView>, Reason>,
+        seen: &Result<Shared<ShownTree>, Reason>,
     ) -> Result<(), Memory>
         ensures row { OnOk result (HasRow self.new cluster.now place (keys_of cluster.now (child_seen seen.now) (localities_at trees.entry.now place))) }
         ensures others { OnOk result ((other : Name) → other ≢ cluster.now → row_named self.new other ≡ row_named self.old other) }

@@ -7,3 +7,4 @@ pub mod ErrorLemmas
 pub mod SettleLemmas
 pub mod MarkLemmas
 pub mod TellLemmas
+mod ToldLemmas

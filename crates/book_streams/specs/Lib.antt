@@ -1,4 +1,5 @@
 pub mod StreamsKept
+pub mod ToldNames
 pub mod Telling
 pub mod RefusalText
 pub mod StreamsLaws

@@ -22,6 +22,7 @@ ghost use Rattle.book_streams.specs.Telling.{told_first, sent_first};
 use crate::event_turns::{authority_in, turn_by};
 use crate::marked_streams::{tell_marked, watch};
 use crate::stream_marks::StreamMarks;
+use crate::told_keys::ToldKeys;
 use ads_stream::{Stream, Verdict};
 use call_journal::{DriverEvent, Sent};
 use std::alloc::Global;
@@ -36,7 +37,7 @@ pub struct Streams {
     alloc: Global,
     streams: Vec<Stream>,
     marks: StreamMarks,
-    told: List<Key>,
+    told: ToldKeys,
 }
 
 impl Model for Streams {
@@ -84,7 +85,7 @@ impl Streams {
             alloc,
             streams,
             marks,
-            told: List::new(alloc),
+            told: ToldKeys::new(alloc),
         })
     }
 
@@ -248,7 +249,12 @@ impl Streams {
         ensures state { OnOk result (self.new ≡ told_first 0 (length self.old) (names_among keys.now) self.old) }
     {
         watch(self.alloc, &mut self.marks, &mut self.told, keys)?;
-        let sent = tell_marked(self.alloc, &mut self.streams, &mut self.marks, keys)?;
+        let sent = tell_marked(
+            self.alloc,
+            &mut self.streams,
+            &mut self.marks,
+            &mut self.told,
+        )?;
         Ok(sent)
     }
 

@@ -5,11 +5,12 @@ ghost use Rattle.xc_keys.specs.Keys.{kind_place};
 ghost use Rattle.xds_history.specs.Requests.{sent_to};
 ghost use Rattle.book_streams.specs.StreamsKept.{is_asked_of, key_names, names_among};
 
+use crate::told_keys::ToldKeys;
 use ads_stream::{Names, Stream};
 use call_journal::Sent;
 use proto_discovery::Request;
 use std::alloc::Global;
-use xc_base::{Authority, Home, Key, Kind, List, Memory, Text};
+use xc_base::{Authority, Home, Key, Kind, List, Memory, Shared, Text};
 
 /// The place of a kind in the order of kinds.
 fn kind_place(kind: Kind) -> u8
@@ -69,10 +70,10 @@ pub fn names_among(alloc: Global, authority: Authority, keys: &[Key]) -> Result<
     ensures { IfOk result (λ names. names ≡ names_among keys.now authority) }
 {
     Ok(Names {
-        listener: key_names(alloc, authority, Kind::Listener, keys)?,
-        route: key_names(alloc, authority, Kind::Route, keys)?,
-        cluster: key_names(alloc, authority, Kind::Cluster, keys)?,
-        endpoint: key_names(alloc, authority, Kind::Endpoint, keys)?,
+        listener: Shared::new(alloc, key_names(alloc, authority, Kind::Listener, keys)?)?,
+        route: Shared::new(alloc, key_names(alloc, authority, Kind::Route, keys)?)?,
+        cluster: Shared::new(alloc, key_names(alloc, authority, Kind::Cluster, keys)?)?,
+        endpoint: Shared::new(alloc, key_names(alloc, authority, Kind::Endpoint, keys)?)?,
     })
 }
 
@@ -93,19 +94,19 @@ fn add_sent(
 /// Tells a stream which keys are watched, and adds the requests that are due on it. A stream that is down costs nothing. It
 /// fails for want of memory alone.
 pub fn tell(
-    alloc: Global,
     authority: Authority,
     stream: &mut Stream,
-    keys: &[Key],
+    told: &mut ToldKeys,
     sent: &mut List<Sent>,
 ) -> Result<(), Memory>
-    ensures sent { OnOk result (sent.new ≡ sent.old ++ map (sent_to authority) (requests_due stream.old (names_among keys.now authority))) }
-    ensures state { OnOk result (stream.new ≡ names_told stream.old (names_among keys.now authority)) }
+    ensures sent { OnOk result (sent.new ≡ sent.old ++ map (sent_to authority) (requests_due stream.old (names_among told.old authority))) }
+    ensures state { OnOk result (stream.new ≡ names_told stream.old (names_among told.old authority)) }
+    ensures told { told.new ≡ told.old }
 {
     if !stream.is_up() {
         return Ok(());
     }
-    let names = names_among(alloc, authority, keys)?;
+    let names = told.names(authority)?;
     let requests = stream.names(&names)?;
     add_sent(authority, requests, sent)
 }

@@ -10,6 +10,7 @@ pub mod marked_streams;
 pub mod refusal_text;
 pub mod stream_marks;
 pub mod streams_laws;
+pub mod told_keys;
 
 pub use all_streams::Streams;
 pub use refusal_text::error_in;

@@ -8,9 +8,9 @@ ghost use Rattle.book_streams.specs.Telling.{told_first, sent_first};
 use crate::asking::tell;
 use crate::changed_names::{are_same, mark_changed};
 use crate::stream_marks::StreamMarks;
+use crate::told_keys::ToldKeys;
 use ads_stream::Stream;
 use call_journal::Sent;
-use config_assembly::ordered::copy_keys;
 use std::alloc::Global;
 use xc_base::{Authority, Key, List, Memory};
 
@@ -19,38 +19,38 @@ use xc_base::{Authority, Key, List, Memory};
 pub fn watch(
     alloc: Global,
     marks: &mut StreamMarks,
-    told: &mut List<Key>,
+    told: &mut ToldKeys,
     keys: &[Key],
 ) -> Result<(), Memory>
     ensures told { OnOk result (told.new ≡ keys.now) }
     ensures kept { (states : List StreamState) → AreKept states marks.old told.old → AreKept states marks.new told.new }
 {
     if !are_same(told.as_slice(), keys) {
-        let copy = copy_keys(alloc, keys)?;
+        let next = ToldKeys::of(alloc, keys)?;
         mark_changed(marks, told.as_slice(), keys);
-        *told = copy;
+        *told = next;
     }
     Ok(())
 }
 
-/// Tells the marked streams which keys are watched, and gives the requests that are due by it. All others are settled. It
+/// Tells the marked streams which keys are watched, which are these, and gives the requests that are due by it. All others are settled. It
 /// fails for want of memory alone, and then nothing is said of the streams that are marked.
 pub fn tell_marked(
     alloc: Global,
     streams: &mut Vec<Stream>,
     marks: &mut StreamMarks,
-    keys: &[Key],
+    told: &mut ToldKeys,
 ) -> Result<List<Sent>, Memory>
-    requires { AreKept streams.old.items marks.old keys.now }
-    ensures sent { IfOk result (λ sent. sent ≡ sent_first 0 (length streams.old.items) (names_among keys.now) streams.old.items) }
-    ensures state { OnOk result (streams.new.items ≡ told_first 0 (length streams.old.items) (names_among keys.now) streams.old.items) }
-    ensures kept { AreKept streams.new.items marks.new keys.now }
+    requires { AreKept streams.old.items marks.old told.old }
+    ensures sent { IfOk result (λ sent. sent ≡ sent_first 0 (length streams.old.items) (names_among told.old) streams.old.items) }
+    ensures state { OnOk result (streams.new.items ≡ told_first 0 (length streams.old.items) (names_among told.old) streams.old.items) }
+    ensures kept { AreKept streams.new.items marks.new told.new }
 {
     let mut sent = List::new(alloc);
     for place in marks.first()..marks.end() {
         if marks.is_marked(place) {
             let authority = Authority(place as u16);
-            tell(alloc, authority, &mut streams[place], keys, &mut sent)?;
+            tell(authority, &mut streams[place], told, &mut sent)?;
         }
         marks.pass(place);
     }

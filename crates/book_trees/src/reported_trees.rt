@@ -36,7 +36,7 @@ fn reported_in(event: &DriverEvent) -> &[Address]
     ensures { result.now ≡ reported_in event.now }
 {
     match event {
-        DriverEvent::Endpoint { address, .. } => slice::from_ref(address),
+        DriverEvent::Endpoint { address, .. } => slice::from_ref(address.get()),
         _ => &[],
     }
 }
@@ -72,7 +72,7 @@ impl ReportedTrees {
     {
         match event {
             DriverEvent::Endpoint { address, state } => {
-                report(&mut self.reports, address, *state)?;
+                report(&mut self.reports, address.get(), *state)?;
             }
             DriverEvent::Moment(time) => {
                 self.now = self.now.max(*time);

@@ -37,7 +37,8 @@ pub enum DriverEvent {
     Moment(Time),
     /// The state of an endpoint is reported.
     Endpoint {
-        address: Address,
+        /// It stands apart, so that no other event takes its room.
+        address: Shared<Address>,
         state: State,
     },
     /// Nothing else happens.

@@ -3,15 +3,15 @@ use crate::text_lists::{node, texts};
 use ads_stream::{Names, Stream, Verdict};
 use std::alloc::Global;
 use std::test::Fail;
-use xc_base::{Kind, List, Memory, Text};
+use xc_base::{Kind, List, Memory, Shared, Text};
 
 /// A listener and nothing else.
 fn names(alloc: Global) -> Result<Names, Memory> {
     Ok(Names {
-        listener: texts(alloc, &["svc"])?,
-        route: List::new(alloc),
-        cluster: List::new(alloc),
-        endpoint: List::new(alloc),
+        listener: Shared::new(alloc, texts(alloc, &["svc"])?)?,
+        route: Shared::new(alloc, List::new(alloc))?,
+        cluster: Shared::new(alloc, List::new(alloc))?,
+        endpoint: Shared::new(alloc, List::new(alloc))?,
     })
 }
 

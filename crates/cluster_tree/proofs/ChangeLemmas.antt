@@ -1,9 +1,9 @@
 -- Which of what is seen differs from before.
-use Rattle.std.proofs.Common.{◌≡◌, ◌<◌, ◌≤◌, ◌+◌, ℕ, Bool, true, false, List, [], ◌∷◌, ◌++◌, length, get_or, set, Option, Some, None, Result, Ok, Err, ◌⊎◌, inl, inr, refl, sym, ap, ◌∙◌, subst, arith}
+use Rattle.std.proofs.Common.{◌≡◌, ◌<◌, ◌≤◌, ◌+◌, ℕ, Bool, true, false, List, [], ◌∷◌, ◌++◌, length, get_or, Option, Some, None, Result, Ok, Err, ◌⊎◌, inl, inr, refl, sym, ap, ◌∙◌, subst, arith}
 use Rattle.std.specs.Prelude.{◌↔◌, not, IsTrue, option_map}
 use Rattle.std.specs.Option.{option_and_then}
 use Rattle.std.proofs.lemmas.Bool.{cases_lt}
-use Rattle.std.proofs.lemmas.List.{length_push, get_or_push, get_or_append_left, set-get_or}
+use Rattle.std.proofs.lemmas.List.{length_push, get_or_push, get_or_append_left}
 use Rattle.xc_base.specs.declared.reason.Reason.{Reason}
 use Rattle.tree_steps.specs.declared.tree_view.TreeView.{TreeView}
 use Rattle.cluster_tree.specs.declared.cluster_trees.Cluster.{Cluster}
@@ -20,21 +20,6 @@ mark_by true before now says = record {
 mark_by false before now says = record {
   stays = λ off. (let clash : true ≡ false = off in absurd (cc));
   differs = λ on is. (let clash : false ≡ true = says.1 is in absurd (cc));
-}
-
--- a view that is compared with the one before
-pub view_mark : (same : Bool) (before now : TreeView) → (IsTrue same ↔ (before ≡ now)) → IsChangeMark (not same) (Some before) now
-view_mark same before now says =
-    mark_by same (Some before) now ((λ yes. ap (λ (v : TreeView). let o : Option TreeView = Some v in o) (says.0 yes)), (λ is. says.1 (some_inj before now is)))
-  where
-    some_inj : (a b : TreeView) → Some a ≡ Some b → a ≡ b
-    some_inj a b same = cc
-
--- nothing was seen before
-pub first_mark : {A : Type 0} (now : A) → IsChangeMark true None now
-first_mark now = record {
-  stays = λ off. (let clash : true ≡ false = off in absurd (cc));
-  differs = λ on is. absurd (cc);
 }
 
 state_mark : (mark : Bool) (state : Result Standing Reason) (now : TreeView) → IsChangeMark mark (tree_view_in state) now → IsChangeMark mark (Some (view_in state)) (Ok now)
@@ -91,7 +76,3 @@ still_mark cluster = record {
   stays = λ off. refl;
   differs = λ on. (let clash : false ≡ true = on in absurd (cc));
 }
-
--- a place behind which none is marked stays as it is, where it isn't to be marked
-pub unmarked_stays : (marks : List Bool) (at : ℕ) (mark : Bool) → ((later : ℕ) → at ≤ later → get_or marks later false ≡ false) → mark ≡ false → marks ≡ set marks at mark
-unmarked_stays marks at mark ahead off = sym (ap (set marks at) (off ∙ sym (ahead at (omega arith))) ∙ set-get_or marks at false)

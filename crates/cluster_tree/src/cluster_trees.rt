@@ -14,6 +14,7 @@ use std::alloc::Global;
 use std::collections::BTreeMap;
 use tree_steps::tree::chosen_localities;
 use tree_steps::{Tree, TreeView, Users};
+use tree_text::ShownTree;
 use xc_base::{Address, Memory, Reason, Same, Shared, State, Text, Time};
 use xds_config::{ClusterEntry, Leaves, Locality};
 
@@ -21,7 +22,7 @@ use xds_config::{ClusterEntry, Leaves, Locality};
 #[derive(Drop)]
 pub(crate) struct Standing {
     pub(crate) trees: Switch<Tree>,
-    pub(crate) view: Shared<TreeView>,
+    pub(crate) view: Shared<ShownTree>,
     /// When the first timer of the trees that runs ends, or the last of all times where none runs.
     pub(crate) until: Time,
 }
@@ -54,9 +55,17 @@ struct NextStanding {
 /// What is seen of trees after an update.
 #[derive(Drop)]
 struct NextView {
-    view: Shared<TreeView>,
+    view: Shared<ShownTree>,
     /// Whether it differs from before.
     changed: bool,
+}
+
+/// A view that nothing shares yet, in words.
+fn shown(alloc: Global, view: TreeView) -> Result<Shared<ShownTree>, Memory>
+    ensures { IfOk result (λ shown. shown ≡ view) }
+{
+    let shown = ShownTree::new(alloc, view)?;
+    Ok(Shared::new(alloc, shown)?)
 }
 
 /// A view that is shared with the one before where it is the same.
@@ -67,22 +76,22 @@ fn shared_view(alloc: Global, view: TreeView, old: Option<&Standing>) -> Result<
     match old {
         Some(old) => compared_view(alloc, view, &old.view),
         None => Ok(NextView {
-            view: Shared::new(alloc, view)?,
+            view: shown(alloc, view)?,
             changed: true,
         }),
     }
 }
 
 /// The same where there was a view before.
-fn compared_view(alloc: Global, view: TreeView, old: &Shared<TreeView>) -> Result<NextView, Memory>
+fn compared_view(alloc: Global, view: TreeView, old: &Shared<ShownTree>) -> Result<NextView, Memory>
     ensures view { IfOk result (λ next. next.view ≡ view) }
     ensures changed { IfOk result (λ next. IsChangeMark next.changed (Some old.now) view) }
 {
-    let same = old.get().same(&view);
+    let same = old.get().view().same(&view);
     let view = if same {
         old.share()?
     } else {
-        Shared::new(alloc, view)?
+        shown(alloc, view)?
     };
     Ok(NextView {
         view,
@@ -224,7 +233,7 @@ pub(crate) fn served_localities(alloc: Global, cluster: &Cluster) -> Result<Vec<
 }
 
 /// The view of a cluster's trees, or the reason why it has none.
-pub(crate) fn view_of(cluster: &Cluster) -> Result<Result<Shared<TreeView>, Reason>, Memory>
+pub(crate) fn view_of(cluster: &Cluster) -> Result<Result<Shared<ShownTree>, Reason>, Memory>
     ensures { IfOk result (λ view. view ≡ view_in cluster.now.state) }
 {
     match &cluster.state {

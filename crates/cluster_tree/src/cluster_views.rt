@@ -9,14 +9,14 @@ use crate::cluster_trees::{Cluster, view_of};
 use block_list::{BLOCK_SIZE, BlockList};
 use place_marks::Marks;
 use std::alloc::Global;
-use tree_steps::TreeView;
+use tree_text::ShownTree;
 use xc_base::{List, Memory, Reason, Shared};
 
 /// What is seen of the clusters.
 fn views_of(
     alloc: Global,
     clusters: &[Cluster],
-) -> Result<List<Result<Shared<TreeView>, Reason>>, Memory>
+) -> Result<List<Result<Shared<ShownTree>, Reason>>, Memory>
     ensures { IfOk result (λ views. views ≡ views_of clusters.now) }
 {
     let mut views = List::from_vec(Vec::with_capacity(alloc, clusters.len())?);
@@ -37,10 +37,10 @@ fn part_of(clusters: &[Cluster], number: usize) -> &[Cluster]
 
 /// The block of this number, where it has so many members.
 fn standing_block(
-    views: &BlockList<Result<Shared<TreeView>, Reason>>,
+    views: &BlockList<Result<Shared<ShownTree>, Reason>>,
     number: usize,
     count: usize,
-) -> Option<&Shared<List<Result<Shared<TreeView>, Reason>>>>
+) -> Option<&Shared<List<Result<Shared<ShownTree>, Reason>>>>
     ensures block { IfSome result (λ block. block.now ≡ take 32 (drop (32 * number) views.now)) }
     ensures count { IfSome result (λ block. length block.now ≡ count) }
 {
@@ -54,11 +54,11 @@ fn standing_block(
 /// shared.
 fn block_of(
     alloc: Global,
-    views: &BlockList<Result<Shared<TreeView>, Reason>>,
+    views: &BlockList<Result<Shared<ShownTree>, Reason>>,
     number: usize,
     clusters: &[Cluster],
     is_marked: bool,
-) -> Result<Shared<List<Result<Shared<TreeView>, Reason>>>, Memory>
+) -> Result<Shared<List<Result<Shared<ShownTree>, Reason>>>, Memory>
     requires { is_marked ≡ false → (place : ℕ) (d : ClusterValue) → place < length clusters.now → IfSome (slice_get views.now (32 * number + place)) (λ view. view ≡ seen_of (get_or clusters.now place d)) }
     ensures { IfOk result (λ block. block ≡ views_of clusters.now) }
 {
@@ -98,10 +98,10 @@ fn count_before(places: &[u32], passed: usize, end: usize) -> usize
 /// so each is passed once, and the others not at all.
 pub(crate) fn views_after(
     alloc: Global,
-    views: &BlockList<Result<Shared<TreeView>, Reason>>,
+    views: &BlockList<Result<Shared<ShownTree>, Reason>>,
     clusters: &[Cluster],
     marks: &Marks,
-) -> Result<BlockList<Result<Shared<TreeView>, Reason>>, Memory>
+) -> Result<BlockList<Result<Shared<ShownTree>, Reason>>, Memory>
     requires stay { StayBut marks.now views.now clusters.now }
     ensures { IfOk result (λ after. after ≡ views_of clusters.now) }
 {

@@ -1,6 +1,6 @@
 //! What is published.
 use block_list::BlockList;
-use tree_steps::TreeView;
+use tree_text::ShownTree;
 use xc_base::{Reason, Shared};
 use xds_config::Config;
 
@@ -13,5 +13,5 @@ pub struct Snapshot {
     /// The configuration.
     pub config: Shared<Config>,
     /// What is seen of each cluster's trees, or the reason why the cluster has none.
-    pub trees: BlockList<Result<Shared<TreeView>, Reason>>,
+    pub trees: BlockList<Result<Shared<ShownTree>, Reason>>,
 }

@@ -19,8 +19,9 @@ use std::alloc::Global;
 use std::collections::BTreeMap;
 use std::marker::Model;
 use std::mem;
+use tree_steps::Users;
 use tree_steps::users::marks_of;
-use tree_steps::{TreeView, Users};
+use tree_text::ShownTree;
 use xc_base::{Address, Memory, Reason, Shared, State, Time};
 use xds_config::{ClusterEntry, Config, Locality};
 
@@ -29,7 +30,7 @@ use xds_config::{ClusterEntry, Config, Locality};
 pub struct UpdatedViews {
     /// The view of each cluster's trees, or the reason why the cluster has none. A view that didn't
     /// change is shared.
-    pub views: BlockList<Result<Shared<TreeView>, Reason>>,
+    pub views: BlockList<Result<Shared<ShownTree>, Reason>>,
     /// For each cluster, whether what is seen of it differs from what the update before gave of it.
     pub changed: Marks,
 }
@@ -54,7 +55,7 @@ pub struct Trees {
     /// Which of them an address or a time touches.
     index: ClusterIndex,
     /// What was seen of the clusters at the last update. An update shares the blocks of it in which nothing changed.
-    seen: BlockList<Result<Shared<TreeView>, Reason>>,
+    seen: BlockList<Result<Shared<ShownTree>, Reason>>,
 }
 
 impl Model for Trees {

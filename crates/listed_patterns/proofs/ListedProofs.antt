@@ -10,7 +10,7 @@ use Rattle.call_journal.specs.declared.reply.DriverReply.{DriverReply}
 use Rattle.xds_name.specs.NameTexts.{after}
 use Rattle.session_lines.specs.Lines.{lines_of}
 use Rattle.session_lines.specs.WordValues.{decoded}
-use Rattle.report_parts.specs.ReportWords.{escaped}
+use Rattle.tree_text.specs.Escapes.{escaped}
 use Rattle.report_parts.specs.RequestText.{pattern_line}
 use Rattle.report_parts.specs.Snapshots.{snapshot_lines}
 use Rattle.report_text.specs.EntryText.{pattern_lines, reply_lines, request_lines}

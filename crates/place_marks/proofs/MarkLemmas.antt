@@ -1,15 +1,13 @@
 -- Marks by the marked places.
-use Rattle.std.proofs.Common.{◌≡◌, ◌<◌, ◌≤◌, ◌+◌, ◌^◌, ◌⊎◌, ℕ, zero, suc, Bool, true, false, List, [], ◌∷◌, ◌++◌, length, get_or, set, replicate, Result, Ok, Err, nat_cmp, eqb-true, inl, inr, refl, sym, ap, subst, ◌∙◌, arith}
-use Rattle.std.specs.Prelude.{◌↔◌, All, Contains, MatchResult, is_ok, not, ◌==◌}
+use Rattle.std.proofs.Common.{◌≡◌, ◌<◌, ◌≤◌, ◌+◌, ◌^◌, ◌⊎◌, ℕ, zero, suc, Bool, true, false, List, [], ◌∷◌, ◌++◌, length, get_or, set, replicate, eqb-true, inl, inr, refl, sym, ap, subst, ◌∙◌, arith}
+use Rattle.std.specs.Prelude.{◌↔◌, All, Contains, not, ◌==◌}
 use Rattle.std.specs.List.{list_any}
-use Rattle.std.specs.List.Sorted.{IsBinarySearchResult}
 use Rattle.std.proofs.lemmas.Bool.{cases_eq, cases_lt}
-use Rattle.std.proofs.lemmas.List.{length-set, length-replicate, get_or_default, get_or_past, get_or-replicate, get_or-set_same, get_or-set_other, replicate_more, set-append_left, set_at}
+use Rattle.std.proofs.lemmas.List.{length-set, length-replicate, get_or_past, get_or-replicate, get_or-set_same, get_or-set_other, replicate_more, set-append_left, set_at}
 use Rattle.std.proofs.lemmas.List.Elements.{All-head, All-tail, All-push, All-weaker, All-replicate, All-contains, Contains-get_or}
 use Rattle.std.proofs.lemmas.List.Folds.{list_any_none, list_any_at}
 use Rattle.std.proofs.lemmas.List.Quantifiers.{all_pairs_push}
-use Rattle.std.proofs.lemmas.List.Sorted.{searched}
-use Rattle.place_marks.specs.Marks.{marked_on, marks_of, AreRising, AreMarked}
+use Rattle.place_marks.specs.Marks.{marked_on, marks_of, AreMarked}
 
 -- there are as many marks as before
 length_on : (marks : List Bool) (places : List ℕ) → length (marked_on marks places) ≡ length marks
@@ -160,35 +158,3 @@ any_marked count (place ∷ places) within =
     let on : get_or (marks_of count (place ∷ places)) place false ≡ true = (marked_is count (place ∷ places) within place).1 (Contains-get_or (place ∷ places) 0 place (omega arith)) in
     let there : place < length (marks_of count (place ∷ places)) = omega (arith, length_marks count (place ∷ places), All-head (λ (p : ℕ). p < count) place places within) in
     not_zero (length places) ∙ sym (ap not (list_any_at (λ (mark : Bool). mark) (marks_of count (place ∷ places)) place false there on))
-
--- what a search by halves wants of the order
-never_falls : (places : List ℕ) → AreRising places → (i j : ℕ) → i ≤ j → j < length places → get_or places i 0 ≤ get_or places j 0
-never_falls places rising i j le lt = by (cases_lt i j)
-  where
-    by : (i < j) ⊎ (j ≤ i) → get_or places i 0 ≤ get_or places j 0
-    by (inl less) = omega (arith, rising i j 0 less lt)
-    by (inr least) =
-        let one : i ≡ j = omega (arith, le, least) in
-        subst (λ (n : ℕ). get_or places i 0 ≤ get_or places n 0) one (omega arith)
-
--- what a search by halves tells
-found_tells : (count : ℕ) (places : List ℕ) (place : ℕ) (found : Result ℕ ℕ) → All (λ p. p < count) places
-    → MatchResult found (λ i. (i < length places) × (get_or places i 0 ≡ place)) (λ i. (i ≤ length places) × ((k : ℕ) → k < i → get_or places k 0 < place) × ((k : ℕ) → i ≤ k → k < length places → place < get_or places k 0))
-    → is_ok found ≡ get_or (marks_of count places) place false
-found_tells count places place (Ok i) within tells =
-    sym ((marked_is count places within place).1 (i, tells.0, get_or_default places i place 0 tells.0 ∙ tells.1))
-found_tells count places place (Err i) within tells = by (get_or (marks_of count places) place false) refl
-  where
-    nowhere : Contains places place → ⊥
-    nowhere among = at (get_or_default places among.0 0 place among.1 ∙ among.2) (cases_lt among.0 i)
-      where
-        at : get_or places among.0 0 ≡ place → (among.0 < i) ⊎ (i ≤ among.0) → ⊥
-        at is (inl before) = omega (arith, is, tells.1 among.0 before)
-        at is (inr behind) = omega (arith, is, tells.2 among.0 behind among.1)
-
-    by : (mark : Bool) → get_or (marks_of count places) place false ≡ mark → false ≡ mark
-    by true on = absurd (nowhere ((marked_is count places within place).0 on))
-    by false off = refl
-
-pub search_tells : (count : ℕ) (places : List ℕ) (place : ℕ) (found : Result ℕ ℕ) → AreMarked count places → IsBinarySearchResult (λ p. nat_cmp p place) places found → is_ok found ≡ get_or (marks_of count places) place false
-search_tells count places place found are says = found_tells count places place found are.within (searched places place found says (never_falls places are.rising))

@@ -79,31 +79,11 @@ impl Marks {
         Ok(())
     }
 
-    /// How many places there are.
-    pub fn len(&self) -> usize
-        ensures { result ≡ length self.now }
-    {
-        self.count
-    }
-
     /// Whether none is marked.
     pub fn are_none(&self) -> bool
         ensures { result ≡ not (list_any (λ mark. mark) self.now) }
     {
         self.places.as_slice().is_empty()
-    }
-
-    /// Whether a place is marked. One that isn't there isn't.
-    pub fn is_marked(&self, place: usize) -> bool
-        ensures { result ≡ get_or self.now place false }
-    {
-        if place >= self.count {
-            return false;
-        }
-        self.places
-            .as_slice()
-            .binary_search(&(place as u32))
-            .is_ok()
     }
 
     /// The marked places, in rising order.

@@ -2,7 +2,7 @@
 use crate::show_fault::Fault;
 use proto_discovery::{AnyValue, Request, Response, kind_of};
 use std::alloc::Global;
-use xc_base::{List, Memory, Node, Text};
+use xc_base::{List, Memory, Node, Shared, Text};
 
 /// The request with the version, the nonce and the kind of a response, and with the type URLs of its resources as names. Five
 /// names or more are the texts of a node too, and where there is no version the nonce is the text of an error too.
@@ -16,7 +16,7 @@ pub fn request_of(alloc: Global, response: &Response) -> Result<Request, Fault> 
         version: response.version.clone()?,
         nonce: response.nonce.clone()?,
         node: node(names.as_slice())?,
-        names,
+        names: Shared::new(alloc, names)?,
         error: error(response)?,
     })
 }

@@ -5,7 +5,7 @@ ghost use Rattle.proto_discovery.specs.Request.{locality_field, feature_fields, 
 use crate::type_urls::type_url;
 use proto_wire::{put_bytes, put_text, put_uint};
 use std::alloc::Global;
-use xc_base::{Kind, List, Memory, Node, Text};
+use xc_base::{Kind, List, Memory, Node, Shared, Text};
 
 /// The feature that says that the client ignores overprovisioning factors.
 const NO_OVERPROVISIONING: &str = "envoy.lb.does_not_support_overprovisioning";
@@ -26,7 +26,7 @@ pub struct Request {
     /// The nonce of the response that is answered, empty before the first.
     pub nonce: Text,
     /// The names of the resources that are asked for.
-    pub names: List<Text>,
+    pub names: Shared<List<Text>>,
     /// The client's node, which a stream's first request has.
     pub node: Option<Node>,
     /// Why the response is refused, where it is (NACK).
@@ -113,7 +113,7 @@ fn put_request(alloc: Global, out: &mut List<u8>, request: &Request) -> Result<(
 {
     put_text(alloc, out, 1, request.version.as_str())?;
     put_node(alloc, out, &request.node)?;
-    put_names(alloc, out, &request.names)?;
+    put_names(alloc, out, request.names.get())?;
     put_bytes(alloc, out, 4, type_url(request.kind).as_bytes())?;
     put_text(alloc, out, 5, request.nonce.as_str())?;
     put_error(alloc, out, &request.error)

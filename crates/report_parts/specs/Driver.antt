@@ -11,7 +11,9 @@ use Rattle.call_journal.specs.declared.event.DriverEvent.TheVariants.{Opened, Re
 use Rattle.call_journal.specs.declared.event.BytesHow.{BytesHow}
 use Rattle.call_journal.specs.declared.event.BytesHow.TheVariants as how
 use Rattle.call_journal.specs.declared.reply.DriverReply.{DriverReply}
-use Rattle.report_parts.specs.ReportWords.{authority_text, escaped, kind_word, state_word}
+use Rattle.tree_text.specs.Escapes.{escaped}
+use Rattle.tree_text.specs.TreeText.{state_word}
+use Rattle.report_parts.specs.ReportWords.{authority_text, kind_word}
 
 abbrev pub endpoint_text : List ℕ → State → List ℕ
 endpoint_text address state = codes "endpoint " ++ address ++ codes " " ++ state_word state

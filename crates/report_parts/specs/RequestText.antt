@@ -4,7 +4,8 @@ use Rattle.xc_base.specs.declared.call.Node.{Node}
 use Rattle.xds_bootstrap.specs.declared.bootstrap.AuthorityEntry.{AuthorityEntry}
 use Rattle.proto_discovery.specs.declared.request.Request.{Request}
 use Rattle.call_journal.specs.declared.reply.Sent.{Sent}
-use Rattle.report_parts.specs.ReportWords.{authority_text, escaped, kind_word}
+use Rattle.tree_text.specs.Escapes.{escaped}
+use Rattle.report_parts.specs.ReportWords.{authority_text, kind_word}
 
 -- the line of a pattern that was refused
 unfoldable pub pattern_line : List ℕ → List ℕ

@@ -7,8 +7,8 @@ use Rattle.xds_config.specs.declared.config.Front.{Front}
 use Rattle.xds_config.specs.declared.config.ClusterEntry.{ClusterEntry}
 use Rattle.cluster_tree.specs.declared.snapshot.Snapshot.{Snapshot}
 use Rattle.tree_steps.specs.declared.tree_view.TreeView.{TreeView}
-use Rattle.report_parts.specs.TreeText.{tree_text}
-use Rattle.report_parts.specs.ReportWords.{escaped}
+use Rattle.tree_text.specs.Escapes.{escaped}
+use Rattle.tree_text.specs.TreeText.{tree_text}
 
 abbrev pub front_words : Front → List ℕ
 front_words front = escaped front.listener ++ codes "," ++ escaped front.routes.name ++ codes "," ++ decimal front.host

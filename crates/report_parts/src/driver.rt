@@ -2,10 +2,11 @@
 ghost use Rattle.std.specs.Prelude.{◌≡◌, ◌++◌, OnOk, string_bytes};
 ghost use Rattle.report_parts.specs.Driver.{driver_line, endpoint_text, event_text, how_text, missing_text, outcome_text, verdict_text};
 
-use crate::report_words::{kind_word, push_authority, push_escaped, state_word};
+use crate::report_words::{kind_word, push_authority};
 use ads_stream::Verdict;
 use call_journal::{BytesHow, DriverEvent, DriverReply};
 use std::fmt::Write;
+use tree_text::{push_escaped, state_word};
 use xc_base::{Address, Key, Memory, State};
 use xds_bootstrap::Bootstrap;
 
@@ -42,7 +43,7 @@ fn push_event(out: &mut String, boot: &Bootstrap, event: &DriverEvent) -> Result
             let ms = time.0;
             write!(out, "time {ms}")
         }
-        DriverEvent::Endpoint { address, state } => push_endpoint(out, address, *state),
+        DriverEvent::Endpoint { address, state } => push_endpoint(out, address.get(), *state),
         DriverEvent::Sweep => out.push_str("sweep"),
     }
 }

@@ -8,7 +8,6 @@ pub mod pick_places;
 pub mod report_words;
 pub mod request_report;
 pub mod snapshot_report;
-pub mod tree_report;
 
 pub use callers::{cluster_in, push_caller_line};
 pub use driver::push_driver_line;

@@ -2,16 +2,17 @@
 ghost use Rattle.std.specs.Prelude.{◌≡◌, ◌==◌, find, option_copied};
 ghost use Rattle.report_parts.specs.Callers.{address_of, category_of, parts_of, picker_in, picker_of_cluster, picker_of_tree};
 
-use cluster_tree::{Snapshot, TreeView};
+use cluster_tree::Snapshot;
+use tree_text::ShownTree;
 use weighted_lb::{Part, PickBody, Picker};
 use xc_base::{Address, Reason, Shared, Text};
 
 /// The picker of a cluster's trees, where it has some.
-fn picker_of_tree(tree: &Result<Shared<TreeView>, Reason>) -> Option<&Picker>
+fn picker_of_tree(tree: &Result<Shared<ShownTree>, Reason>) -> Option<&Picker>
     ensures { option_copied result ≡ picker_of_tree tree.now }
 {
     match tree {
-        Ok(tree) => Some(&tree.get().picker),
+        Ok(tree) => Some(&tree.get().view().picker),
         Err(_) => None,
     }
 }

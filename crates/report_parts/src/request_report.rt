@@ -2,9 +2,10 @@
 ghost use Rattle.std.specs.Prelude.{◌≡◌, ◌++◌, OnOk, codes, string_bytes};
 ghost use Rattle.report_parts.specs.RequestText.{error_text, more_names, names_text, node_text, pattern_line, request_line, request_text};
 
-use crate::report_words::{kind_word, push_authority, push_escaped};
+use crate::report_words::{kind_word, push_authority};
 use call_journal::Sent;
 use proto_discovery::Request;
+use tree_text::push_escaped;
 use xc_base::{List, Memory, Node, Text};
 use xds_bootstrap::Bootstrap;
 
@@ -70,7 +71,7 @@ fn push_asked(out: &mut String, request: &Request) -> Result<(), Memory>
     ensures { OnOk result (string_bytes out.new ≡ string_bytes out.old ++ codes " names=" ++ names_text request.now.names ++ error_text request.now.error ++ node_text request.now.node) }
 {
     out.push_str(" names=")?;
-    push_names(out, &request.names)?;
+    push_names(out, request.names.get())?;
     push_error(out, &request.error)?;
     out.push_str(node_text(&request.node))
 }

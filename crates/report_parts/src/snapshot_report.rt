@@ -1,12 +1,12 @@
 //! The line of a snapshot.
 ghost use Rattle.std.specs.Prelude.{◌≡◌, ◌++◌, OnOk, option_copied, slice_get, string_bytes};
 ghost use Rattle.report_parts.specs.Snapshots.{cluster_text, clusters_from, found_tree_text, front_text, front_words, snapshot_line, snapshot_lines};
+ghost use Rattle.tree_text.specs.TreeText.{tree_text};
 
-use crate::report_words::push_escaped;
-use crate::tree_report::push_tree;
 use block_list::BlockList;
-use cluster_tree::{Snapshot, TreeView};
+use cluster_tree::Snapshot;
 use std::fmt::Write;
+use tree_text::{ShownTree, push_escaped};
 use xc_base::{Memory, Reason, Shared};
 use xds_config::{ClusterEntry, Front};
 
@@ -31,10 +31,20 @@ fn push_front(out: &mut String, front: &Result<Front, Reason>) -> Result<(), Mem
     }
 }
 
+/// Adds the trees of a cluster, or the reason why it has none.
+fn push_tree(out: &mut String, tree: &Result<Shared<ShownTree>, Reason>) -> Result<(), Memory>
+    ensures { OnOk result (string_bytes out.new ≡ string_bytes out.old ++ tree_text tree.now) }
+{
+    match tree {
+        Ok(tree) => out.push_str(tree.get().text().as_str()),
+        Err(reason) => write!(out, "!{reason}"),
+    }
+}
+
 /// Adds the text of trees, of which there may be none.
 fn push_found_tree(
     out: &mut String,
-    tree: Option<&Result<Shared<TreeView>, Reason>>,
+    tree: Option<&Result<Shared<ShownTree>, Reason>>,
 ) -> Result<(), Memory>
     ensures { OnOk result (string_bytes out.new ≡ string_bytes out.old ++ found_tree_text (option_copied tree.entry)) }
 {
@@ -46,9 +56,9 @@ fn push_found_tree(
 
 /// The trees at a place.
 fn tree_at(
-    trees: &BlockList<Result<Shared<TreeView>, Reason>>,
+    trees: &BlockList<Result<Shared<ShownTree>, Reason>>,
     place: usize,
-) -> Option<&Result<Shared<TreeView>, Reason>>
+) -> Option<&Result<Shared<ShownTree>, Reason>>
     ensures { option_copied result ≡ slice_get trees.now place }
 {
     trees.get(place)
@@ -59,7 +69,7 @@ fn tree_at(
 fn push_cluster(
     out: &mut String,
     cluster: &ClusterEntry,
-    tree: Option<&Result<Shared<TreeView>, Reason>>,
+    tree: Option<&Result<Shared<ShownTree>, Reason>>,
 ) -> Result<(), Memory>
     ensures { OnOk result (string_bytes out.new ≡ string_bytes out.old ++ cluster_text cluster.now (option_copied tree.entry)) }
 {
@@ -74,7 +84,7 @@ fn push_cluster(
 fn push_clusters(
     out: &mut String,
     clusters: &[Shared<ClusterEntry>],
-    trees: &BlockList<Result<Shared<TreeView>, Reason>>,
+    trees: &BlockList<Result<Shared<ShownTree>, Reason>>,
 ) -> Result<(), Memory>
     ensures { OnOk result (string_bytes out.new ≡ string_bytes out.old ++ clusters_from trees.now 0 clusters.now) }
 {

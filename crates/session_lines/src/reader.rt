@@ -192,6 +192,7 @@ impl Reader {
     {
         let address = address_in(self.alloc, address)?;
         let state = state_in(state).ok_or(Cause::State)?;
+        let address = Shared::new(self.alloc, address)?;
         Ok(Work::Driver(DriverLine::Endpoint { address, state }))
     }
 

@@ -22,7 +22,8 @@ pub enum DriverLine {
     Moment(Time),
     /// The state of an endpoint is reported; one that is idle counts as connecting.
     Endpoint {
-        address: Address,
+        /// It stands apart, so that no other line takes its room.
+        address: Shared<Address>,
         state: State,
     },
     /// The driver takes a step and nothing else.

@@ -91,7 +91,7 @@ pub(crate) fn add_events(
             Ok(())
         }
         DriverLine::Endpoint { address, state } => {
-            let address = address.clone()?;
+            let address = address.share()?;
             out.push(DriverEvent::Endpoint {
                 address,
                 state: *state,

@@ -22,7 +22,7 @@ pub fn shared_event(event: &DriverEvent) -> Result<DriverEvent, Memory>
         DriverEvent::Lost(authority) => Ok(DriverEvent::Lost(*authority)),
         DriverEvent::Moment(time) => Ok(DriverEvent::Moment(*time)),
         DriverEvent::Endpoint { address, state } => Ok(DriverEvent::Endpoint {
-            address: address.clone()?,
+            address: address.share()?,
             state: *state,
         }),
         DriverEvent::Sweep => Ok(DriverEvent::Sweep),

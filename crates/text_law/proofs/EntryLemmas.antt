@@ -17,7 +17,8 @@ use Rattle.call_journal.specs.declared.reply.DriverReply.{DriverReply}
 use Rattle.call_journal.specs.declared.reply.Sent.{Sent}
 use Rattle.call_journal.specs.declared.entry.Entry.{Entry}
 use Rattle.xc_base.specs.declared.names.Kind.{Kind}
-use Rattle.report_parts.specs.ReportWords.{escaped, kind_word}
+use Rattle.tree_text.specs.Escapes.{escaped}
+use Rattle.report_parts.specs.ReportWords.{kind_word}
 use Rattle.report_parts.specs.Driver.{driver_line, event_text, how_text, missing_text, outcome_text, verdict_text}
 use Rattle.report_parts.specs.RequestText.{pattern_line, request_line}
 use Rattle.report_parts.specs.Snapshots.{snapshot_line, snapshot_lines}

@@ -7,7 +7,7 @@ use Rattle.std.proofs.lemmas.Bool.Decides.{nat_tests}
 use Rattle.std.proofs.lemmas.List.Elements.{All-head, All-tail, All-weaker}
 use Rattle.percent_encoding.specs.Percent.{percent_decode, percent_encode_byte}
 use Rattle.percent_encoding.proofs.PercentLemmas.{All-percent_encode_byte, IsEscapeByte, percent_decode-nil, percent_decode-percent_encode_byte, percent_decode_not_percent}
-use Rattle.report_parts.specs.ReportWords.{escaped, stays}
+use Rattle.tree_text.specs.Escapes.{escaped, stays}
 use Rattle.text_law.proofs.Texts.{lacks, AreBytes, begins_pattern}
 use Rattle.text_law.proofs.ByteLemmas.{utf8_bytes}
 

@@ -28,10 +28,11 @@ use Rattle.call_journal.specs.declared.event.DriverEvent.{DriverEvent}
 use Rattle.call_journal.specs.declared.reply.CallerReply.{CallerReply}
 use Rattle.call_journal.specs.declared.reply.DriverReply.{DriverReply}
 use Rattle.call_journal.specs.declared.reply.Sent.{Sent}
-use Rattle.report_parts.specs.ReportWords.{authority_name, authority_text, escaped, kind_word, name_text, state_word}
+use Rattle.tree_text.specs.Escapes.{escaped}
+use Rattle.tree_text.specs.TreeText.{before_child, child_text, children_from, if_so, state_word, tree_text, view_text, waiting_place, waiting_text}
+use Rattle.report_parts.specs.ReportWords.{authority_name, authority_text, kind_word, name_text}
 use Rattle.report_parts.specs.Driver.{event_text, how_text, missing_text, outcome_text, verdict_text}
 use Rattle.report_parts.specs.RequestText.{error_text, more_names, names_text, node_text, request_text}
-use Rattle.report_parts.specs.TreeText.{before_child, child_text, children_from, if_so, tree_text, view_text, waiting_place, waiting_text}
 use Rattle.report_parts.specs.Snapshots.{cluster_text, clusters_from, found_tree_text, front_text}
 use Rattle.report_parts.specs.Callers.{address_of, answer_text, at_text, caller_event_text, caller_reply_text, category_of, cluster_in, picker_in}
 use Rattle.text_law.proofs.Texts.{lacks}

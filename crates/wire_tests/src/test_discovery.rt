@@ -4,7 +4,7 @@ use proto_discovery::{
 };
 use std::alloc::Global;
 use std::test::Fail;
-use xc_base::{Kind, List, Memory, Node, Text};
+use xc_base::{Kind, List, Memory, Node, Shared, Text};
 
 /// A refusal that names its node, as protoc encodes it.
 const REFUSAL: &[u8] =
@@ -33,7 +33,7 @@ fn refusal(alloc: Global) -> Result<Request, Memory> {
         kind: Kind::Listener,
         version: Text::from_str(alloc, "1")?,
         nonce: Text::from_str(alloc, "n2")?,
-        names,
+        names: Shared::new(alloc, names)?,
         node: Some(node(alloc)?),
         error: Some(Text::from_str(alloc, "svc: no-routes")?),
     })

@@ -4,3 +4,4 @@ pub mod Draws
 pub mod Numbers
 pub mod Outside
 pub mod Reasons
+pub mod Texts

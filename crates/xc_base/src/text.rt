@@ -1,5 +1,5 @@
 //! A text.
-ghost use Rattle.std.specs.Prelude.{◌≡◌, ◌==◌, [], length, string_bytes, map, chars, encode_utf8_all, IfOk, Some, refl, IsTrue, ◌↔◌};
+ghost use Rattle.std.specs.Prelude.{◌≡◌, ◌==◌, [], length, string_bytes, map, chars, encode_utf8_all, IfOk, IfSome, Some, refl, IsTrue, ◌↔◌};
 ghost use Rattle.std.specs.Char.{to_ascii_lowercase};
 ghost use Rattle.std.specs.Ordering.{nat_cmp};
 ghost use Rattle.std.specs.Str.{str_to_ascii_lowercase};
@@ -8,25 +8,38 @@ ghost use Rattle.std.specs.Cmp.Lexicographic.{slice_cmp, pointwise, nat_list_eq_
 
 use crate::memory::Memory;
 use crate::shared::Shared;
+use arrayvec::ArrayString;
 use std::alloc::Global;
 use std::cmp::Ordering;
 use std::fmt;
 use std::marker::Model;
 
-/// UTF-8 text that doesn't change, which contracts see as the list of its bytes. Its copies share the
-/// bytes, and the empty text has none.
+/// The most bytes that lie in a text itself.
+const SHORT_LENGTH: usize = 16;
+
+/// Where the bytes of a text lie.
+#[derive(Drop)]
+enum TextBody {
+    /// In the value itself, as those of most names do.
+    Short(ArrayString<SHORT_LENGTH>),
+    /// Behind a count of its owners.
+    Long(Shared<String>),
+}
+
+/// UTF-8 text that doesn't change, which contracts see as the list of its bytes. A text of at most 16 bytes takes no
+/// memory of its own; the copies of a longer one share its bytes.
 #[derive(Drop)]
 pub struct Text {
-    text: Option<Shared<String>>,
+    body: TextBody,
 }
 
 impl Model for Text {
-    ghost use Rattle.std.specs.Prelude.{List, ℕ, [], string_bytes};
-    ghost use Rattle.std.specs.Option.{option_map_or};
+    ghost use Rattle.std.specs.Prelude.{List, ℕ};
+    ghost use Rattle.xc_base.specs.Texts.{body_bytes};
 
     ghost Value = { List ℕ };
 
-    ghost view = { λ t. option_map_or string_bytes t.text [] };
+    ghost view = { λ t. body_bytes t.body };
 }
 
 impl Text {
@@ -34,23 +47,51 @@ impl Text {
     pub fn new() -> Text
         ensures { result ≡ [] }
     {
-        Text { text: None }
+        Text {
+            body: TextBody::Short(ArrayString::new()),
+        }
+    }
+
+    /// A text of these bytes, which must be short.
+    fn short(text: &str) -> Option<Text>
+        ensures { IfSome result (λ t. t ≡ text.now) }
+    {
+        match ArrayString::from(text) {
+            Ok(short) => Some(Text {
+                body: TextBody::Short(short),
+            }),
+            Err(_) => None,
+        }
+    }
+
+    /// A text of the bytes that the string holds, which the copies share.
+    fn long(alloc: Global, text: String) -> Result<Text, Memory>
+        ensures { IfOk result (λ t. t ≡ string_bytes text) }
+    {
+        let text = Shared::new(alloc, text)?;
+        Ok(Text {
+            body: TextBody::Long(text),
+        })
     }
 
     /// A text of these bytes.
     pub fn from_str(alloc: Global, text: &str) -> Result<Text, Memory>
         ensures { IfOk result (λ t. t ≡ text.now) }
     {
-        let text = String::from_str(alloc, text)?;
-        Text::from_string(alloc, text)
+        match Text::short(text) {
+            Some(short) => Ok(short),
+            None => Text::long(alloc, String::from_str(alloc, text)?),
+        }
     }
 
     /// The text that the string holds.
     pub fn from_string(alloc: Global, text: String) -> Result<Text, Memory>
         ensures { IfOk result (λ t. t ≡ string_bytes text) }
     {
-        let text = Shared::new(alloc, text)?;
-        Ok(Text { text: Some(text) })
+        match Text::short(text.as_str()) {
+            Some(short) => Ok(short),
+            None => Text::long(alloc, text),
+        }
     }
 
     /// The text with its ASCII letters in lower case; all other bytes stay.
@@ -65,9 +106,9 @@ impl Text {
     pub fn as_str(&self) -> &str
         ensures { result.now ≡ self.now }
     {
-        match &self.text {
-            Some(text) => text.get().as_str(),
-            None => "",
+        match &self.body {
+            TextBody::Short(short) => short.as_str(),
+            TextBody::Long(long) => long.get().as_str(),
         }
     }
 
@@ -96,15 +137,13 @@ fn lower_characters(alloc: Global, text: &str) -> Result<String, Memory>
 impl Clone for Text {
     ghost is_clone = { λ s t. t ≡ s };
 
-    /// The copy shares the bytes.
+    /// The copy of a text that isn't short shares its bytes.
     fn clone(&self) -> Result<Text, Memory> {
-        match &self.text {
-            Some(text) => {
-                let text = text.share()?;
-                Ok(Text { text: Some(text) })
-            }
-            None => Ok(Text { text: None }),
-        }
+        let body = match &self.body {
+            TextBody::Short(short) => TextBody::Short(*short),
+            TextBody::Long(long) => TextBody::Long(long.share()?),
+        };
+        Ok(Text { body })
     }
 }
 

@@ -14,17 +14,17 @@ returns-in_default-view_at-clause-reply c ps are shows =
 
 pub returns-in-Ok-clause-reply : goal.returns-in-Ok-clause-reply
 returns-in-Ok-clause-reply c ps are shows =
-    let seen : slice_get c.args.snapshot.now.trees c.in-Some.row.now.place ≡ Some (Ok c.get-in-Ok.result.now) =
-    sym c.in-Some-view_at.ensures ∙ ap (λ v. Some v) (c.in-Ok.is ∙ ap (λ v. Ok v) (sym c.get-in-Ok.ensures)) in
-    c.pick_in.ensures.reply ps c.args.cluster.now (turns_for ps c.args.self.now c.args.cluster.now c.args.snapshot.now c.in-Some.row.now c.get-in-Ok.result.now are shows (sym c.in-Some.ensures.value) seen)
-    ∙ seen_held ps c.args.self.now c.args.word c.args.cluster.now c.args.snapshot.now c.in-Some.row.now (Some (Ok c.get-in-Ok.result.now)) are shows (sym c.in-Some.ensures.value) seen
+    let seen : slice_get c.args.snapshot.now.trees c.in-Some.row.now.place ≡ Some (Ok c.view-view.result.now) =
+    sym c.in-Some-view_at.ensures ∙ ap (λ v. Some v) (c.in-Ok.is ∙ ap (λ v. Ok v) (sym (c.view-view.ensures ∙ c.get-in-Ok.ensures))) in
+    c.pick_in.ensures.reply ps c.args.cluster.now (turns_for ps c.args.self.now c.args.cluster.now c.args.snapshot.now c.in-Some.row.now c.view-view.result.now are shows (sym c.in-Some.ensures.value) seen)
+    ∙ seen_held ps c.args.self.now c.args.word c.args.cluster.now c.args.snapshot.now c.in-Some.row.now (Some (Ok c.view-view.result.now)) are shows (sym c.in-Some.ensures.value) seen
 
 pub returns-in-Ok-clause-takes : goal.returns-in-Ok-clause-takes
 returns-in-Ok-clause-takes c ps are shows =
-    let seen : slice_get c.args.snapshot.now.trees c.in-Some.row.now.place ≡ Some (Ok c.get-in-Ok.result.now) =
-    sym c.in-Some-view_at.ensures ∙ ap (λ v. Some v) (c.in-Ok.is ∙ ap (λ v. Ok v) (sym c.get-in-Ok.ensures)) in
+    let seen : slice_get c.args.snapshot.now.trees c.in-Some.row.now.place ≡ Some (Ok c.view-view.result.now) =
+    sym c.in-Some-view_at.ensures ∙ ap (λ v. Some v) (c.in-Ok.is ∙ ap (λ v. Ok v) (sym (c.view-view.ensures ∙ c.get-in-Ok.ensures))) in
     let new : Turns = record { alloc = c.args.self.now.alloc; counts = c.pick_in.new.counts; rows = c.args.self.now.rows } in
-    takes_turn ps c.args.self.now new c.args.cluster.now c.args.snapshot.now c.in-Some.row.now c.get-in-Ok.result.now c.pick_in.result are shows (sym c.in-Some.ensures.value) seen c.pick_in.ensures.child refl c.pick_in.ensures.counts
+    takes_turn ps c.args.self.now new c.args.cluster.now c.args.snapshot.now c.in-Some.row.now c.view-view.result.now c.pick_in.result are shows (sym c.in-Some.ensures.value) seen c.pick_in.ensures.child refl c.pick_in.ensures.counts
 
 pub returns-in-Err-clause-reply : goal.returns-in-Err-clause-reply
 returns-in-Err-clause-reply c ps are shows =

@@ -1,12 +1,31 @@
 //! The texts of clusters' trees.
-ghost use Rattle.std.specs.Prelude.{◌≡◌, ◌++◌, ◌-◌, OnOk, length, position, string_bytes, unwrap_or};
-ghost use Rattle.report_parts.specs.TreeText.{before_child, child_text, children_text, if_so, is_near, is_trying, tree_text, view_text, waiting_place, waiting_text};
+ghost use Rattle.std.specs.Prelude.{◌≡◌, ◌++◌, ◌-◌, OnOk, decimal, length, position, string_bytes, unwrap_or};
+ghost use Rattle.tree_text.specs.TreeText.{before_child, child_text, children_text, if_so, is_near, is_trying, state_word, trees_text, view_text, waiting_place, waiting_text};
 
-use crate::report_words::{push_escaped, push_number, state_word};
-use cluster_tree::{NamedChild, TreeView};
+use crate::escapes::push_escaped;
+use itoa::Buffer;
 use priority_lb::ChildView;
-use std::fmt::Write;
-use xc_base::{List, Memory, Reason, Shared, State};
+use tree_steps::{NamedChild, TreeView};
+use xc_base::{List, Memory, State};
+
+/// Adds a number in decimal digits.
+fn push_number(out: &mut String, number: u32) -> Result<(), Memory>
+    ensures { OnOk result (string_bytes out.new ≡ string_bytes out.old ++ decimal number) }
+{
+    let mut digits = Buffer::new();
+    out.push_str(digits.format(number))
+}
+
+/// The word of a state.
+pub fn state_word(state: State) -> &'static str
+    ensures { result.now ≡ state_word state }
+{
+    match state {
+        State::Connecting => "connecting",
+        State::Ready => "ready",
+        State::Failing => "failing",
+    }
+}
 
 /// A word that stands only where it holds.
 fn if_so(holds: bool, word: &'static str) -> &'static str
@@ -135,20 +154,10 @@ fn push_waiting(out: &mut String, waiting: &Option<List<NamedChild>>) -> Result<
     }
 }
 
-/// Adds the trees of a cluster.
-fn push_trees(out: &mut String, tree: &TreeView) -> Result<(), Memory>
-    ensures { OnOk result (string_bytes out.new ≡ string_bytes out.old ++ children_text tree.now.chosen tree.now.children ++ waiting_text tree.now.waiting) }
+/// Adds the trees of a cluster: the children of the serving one, then those of the one that waits.
+pub(crate) fn push_trees(out: &mut String, tree: &TreeView) -> Result<(), Memory>
+    ensures { OnOk result (string_bytes out.new ≡ string_bytes out.old ++ trees_text tree.now) }
 {
     push_children(out, tree.chosen as usize, tree.children.as_slice())?;
     push_waiting(out, &tree.waiting)
-}
-
-/// Adds the trees of a cluster, or the reason why it has none.
-pub fn push_tree(out: &mut String, tree: &Result<Shared<TreeView>, Reason>) -> Result<(), Memory>
-    ensures { OnOk result (string_bytes out.new ≡ string_bytes out.old ++ tree_text tree.now) }
-{
-    match tree {
-        Ok(tree) => push_trees(out, tree.get()),
-        Err(reason) => write!(out, "!{reason}"),
-    }
 }

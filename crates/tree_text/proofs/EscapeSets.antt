@@ -6,8 +6,8 @@ use Rattle.std.specs.Char.{is_ascii}
 use Rattle.std.specs.List.{flat_map, list_all}
 use Rattle.percent_encoding.specs.AsciiSet.{contains, should_percent_encode}
 use Rattle.percent_encoding.specs.Percent.{percent_encode, percent_encode_byte, encode_byte}
-use Rattle.report_parts.specs.ReportWords.{stays, escaped}
-use Rattle.report_parts.specs.declared.report_words.TheConstants.{ESCAPED}
+use Rattle.tree_text.specs.Escapes.{stays, escaped}
+use Rattle.tree_text.specs.declared.escapes.TheConstants.{ESCAPED}
 
 -- ---- a test of all numbers below one
 

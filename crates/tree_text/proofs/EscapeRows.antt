@@ -1,6 +1,6 @@
 -- Texts with escapes, computed: a name that comes from a server can't end a line of the report or begin another one.
 use Rattle.std.specs.Prelude.{◌≡◌, [], ◌∷◌, codes, refl}
-use Rattle.report_parts.specs.ReportWords.{escaped}
+use Rattle.tree_text.specs.Escapes.{escaped}
 use Rattle.percent_encoding.specs.Percent.{percent_encode_byte}
 
 -- a line feed, 0x7F, and the bounds of what stays: seen where control characters, or 0x7F, or a space stays

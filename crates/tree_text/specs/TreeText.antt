@@ -3,11 +3,18 @@ use Rattle.std.specs.Prelude.{ℕ, ◌+◌, ◌-◌, ◌++◌, ◌==◌, Bool, t
 use Rattle.std.specs.Fmt.{decimal}
 use Rattle.xc_base.specs.Reasons.{reason_word}
 use Rattle.xc_base.specs.declared.reason.Reason.{Reason}
+use Rattle.xc_base.specs.declared.names.State.{State}
+use Rattle.xc_base.specs.declared.names.State.TheVariants.{Connecting, Ready, Failing}
 use Rattle.priority_lb.specs.declared.view.ChildView.{ChildView}
 use Rattle.weighted_lb.specs.States.{is_connecting, is_ready}
 use Rattle.tree_steps.specs.declared.tree_view.NamedChild.{NamedChild}
 use Rattle.tree_steps.specs.declared.tree_view.TreeView.{TreeView}
-use Rattle.report_parts.specs.ReportWords.{escaped, state_word}
+use Rattle.tree_text.specs.Escapes.{escaped}
+
+abbrev pub state_word : State → List ℕ
+state_word Connecting = codes "connecting"
+state_word Ready = codes "ready"
+state_word Failing = codes "failing"
 
 -- a word that stands only where it holds
 abbrev pub if_so : Bool → List ℕ → List ℕ
@@ -56,7 +63,11 @@ abbrev pub waiting_text : Option (List NamedChild) → List ℕ
 waiting_text None = []
 waiting_text (Some children) = codes "|" ++ children_text (waiting_place children) children
 
+-- the children of the serving tree, then those of the tree that waits
+abbrev pub trees_text : TreeView → List ℕ
+trees_text view = children_text view.chosen view.children ++ waiting_text view.waiting
+
 -- the trees of a cluster, or the reason why it has none
 abbrev pub tree_text : Result TreeView Reason → List ℕ
-tree_text (Ok tree) = children_text tree.chosen tree.children ++ waiting_text tree.waiting
+tree_text (Ok tree) = trees_text tree
 tree_text (Err reason) = codes "!" ++ reason_word reason

@@ -1,7 +1,7 @@
 use Rattle.std.proofs.Common.{ap, ◌∙◌, ◌++◌, string_bytes}
-use Rattle.report_parts.specs.ReportWords.{escaped}
-use Rattle.report_parts.proofs.ReportEscapes.{escaped_by_set}
-use Rattle.report_parts.proofs.report_words.push_escaped.Goals as goal
+use Rattle.tree_text.specs.Escapes.{escaped}
+use Rattle.tree_text.proofs.EscapeSets.{escaped_by_set}
+use Rattle.tree_text.proofs.escapes.push_escaped.Goals as goal
 
 pub returns : goal.returns
 returns c =

@@ -1,2 +1,0 @@
-mod ReportEscapes
-pub mod ReportRows

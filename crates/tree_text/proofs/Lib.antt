@@ -1,0 +1,2 @@
+mod EscapeSets
+pub mod EscapeRows
