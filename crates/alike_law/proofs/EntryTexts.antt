@@ -16,11 +16,11 @@ use Rattle.report_parts.specs.Driver.{driver_line, event_text, missing_text, out
 use Rattle.report_parts.specs.RequestText.{pattern_line, request_line, request_text}
 use Rattle.report_parts.specs.Snapshots.{clusters_from, front_text, snapshot_line, snapshot_lines}
 use Rattle.report_parts.specs.Callers.{caller_event_text, caller_line, caller_reply_text}
-use Rattle.report_text.specs.EntryText.{entry_line, entry_lines, more_lines, pattern_lines, reply_lines, request_lines, what_line}
-use Rattle.report_text.specs.ReportLines.{Shown, end_line, entries_text, head_line}
+use Rattle.report_compare.specs.report_text.EntryText.{entry_line, entry_lines, more_lines, pattern_lines, reply_lines, request_lines, what_line}
+use Rattle.report_compare.specs.report_text.ReportLines.{Shown, end_line, entries_text, head_line}
 use Rattle.report_turns.specs.TurnLines.{goes_on}
-use Rattle.text_law.proofs.Texts.{lacks}
-use Rattle.text_law.proofs.TextLemmas.{decimal_lacks, decimal_nonempty}
+use Rattle.report_compare.proofs.text_law.Texts.{lacks}
+use Rattle.report_compare.proofs.text_law.TextLemmas.{decimal_lacks, decimal_nonempty}
 use Rattle.alike_law.proofs.WholeTexts.{EndsLine, IsWhole, ends, ends_behind, ends_whole, other_line, whole_both, whole_nothing}
 
 -- ---- whole lines

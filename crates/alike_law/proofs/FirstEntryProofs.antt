@@ -5,19 +5,19 @@ use Rattle.std.proofs.lemmas.List.{drop_at, length-append}
 use Rattle.xds_bootstrap.specs.declared.bootstrap.AuthorityEntry.{AuthorityEntry}
 use Rattle.call_journal.specs.declared.entry.Entry.{Entry}
 use Rattle.session_lines.specs.Lines.{lines_of}
-use Rattle.report_text.specs.ReportLines.{Shown, end_line, entries_text, head_line, report_text}
+use Rattle.report_compare.specs.report_text.ReportLines.{Shown, end_line, entries_text, head_line, report_text}
 use Rattle.report_turns.specs.TurnLines.{goes_on}
-use Rattle.report_writer.specs.JournalReport.{entries_report}
-use Rattle.xds_history.specs.Setting.{Setting}
-use Rattle.xds_history.specs.Page.{latest_number}
-use Rattle.xds_history.specs.Pages.{pages}
-use Rattle.xds_history.specs.References.{snapshots_of}
-use Rattle.xds_history.specs.Right.{Right}
-use Rattle.xds_history.proofs.KeepProofs.{right_past}
-use Rattle.legal_history.specs.Report.{report, shown_entries}
-use Rattle.report_law.proofs.ShownLemmas.{same_shown}
+use Rattle.report_compare.specs.report_writer.JournalReport.{entries_report}
+use Rattle.report_compare.specs.xds_history.Setting.{Setting}
+use Rattle.report_compare.specs.xds_history.Page.{latest_number}
+use Rattle.report_compare.specs.xds_history.Pages.{pages}
+use Rattle.report_compare.specs.xds_history.References.{snapshots_of}
+use Rattle.report_compare.specs.xds_history.Right.{Right}
+use Rattle.report_compare.proofs.xds_history.KeepProofs.{right_past}
+use Rattle.report_compare.specs.legal_history.Report.{report, shown_entries}
+use Rattle.report_compare.proofs.report_law.ShownLemmas.{same_shown}
 use Rattle.report_compare.specs.FirstLines.{first_lines}
-use Rattle.text_law.proofs.AfterLemmas.{shown_next}
+use Rattle.report_compare.proofs.text_law.AfterLemmas.{shown_next}
 use Rattle.turn_law.specs.LinesBehind.{later_text, newest_more_lines}
 use Rattle.alike_law.specs.FirstEntries.{FirstLinesStand, FrontIsWritten}
 use Rattle.alike_law.proofs.WholeTexts.{IsWhole, feeds, feeds_append, whole_nothing}

@@ -5,7 +5,7 @@ use Rattle.std.proofs.lemmas.Bool.{cases_lt}
 use Rattle.std.proofs.lemmas.List.{drop_at, length-append}
 use Rattle.session_lines.specs.Lines.{lines_of}
 use Rattle.listed_patterns.specs.ListedPatterns.{listed_from}
-use Rattle.legal_history.specs.Report.{report}
+use Rattle.report_compare.specs.legal_history.Report.{report}
 use Rattle.report_compare.specs.FirstLines.{first_lines}
 use Rattle.alike_law.specs.AlikeTexts.{AlikeParts, GoesAlike, PartsAt}
 use Rattle.alike_law.proofs.WholeTexts.{feeds}

@@ -5,8 +5,8 @@ use Rattle.call_journal.specs.declared.entry.Entry.{Entry}
 use Rattle.session_lines.specs.Lines.{lines_of}
 use Rattle.report_turns.specs.TurnLines.{goes_on}
 use Rattle.listed_patterns.specs.ListedPatterns.{listed_from}
-use Rattle.xds_history.specs.Setting.{Setting}
-use Rattle.legal_history.specs.Report.{report}
+use Rattle.report_compare.specs.xds_history.Setting.{Setting}
+use Rattle.report_compare.specs.legal_history.Report.{report}
 use Rattle.report_compare.specs.FirstLines.{first_lines}
 
 -- Two texts have so many first lines in common, and behind each of these in which an entry begins both list the same patterns.

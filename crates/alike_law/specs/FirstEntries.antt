@@ -5,14 +5,14 @@ use Rattle.xds_bootstrap.specs.declared.bootstrap.AuthorityEntry.{AuthorityEntry
 use Rattle.call_journal.specs.declared.entry.Entry.{Entry}
 use Rattle.session_lines.specs.Lines.{lines_of}
 use Rattle.report_turns.specs.TurnLines.{goes_on}
-use Rattle.report_writer.specs.JournalReport.{entries_report}
-use Rattle.xds_history.specs.Setting.{Setting}
-use Rattle.xds_history.specs.Pages.{pages}
-use Rattle.xds_history.specs.References.{snapshots_of}
-use Rattle.xds_history.specs.Right.{Right}
-use Rattle.legal_history.specs.Report.{report}
+use Rattle.report_compare.specs.report_writer.JournalReport.{entries_report}
+use Rattle.report_compare.specs.xds_history.Setting.{Setting}
+use Rattle.report_compare.specs.xds_history.Pages.{pages}
+use Rattle.report_compare.specs.xds_history.References.{snapshots_of}
+use Rattle.report_compare.specs.xds_history.Right.{Right}
+use Rattle.report_compare.specs.legal_history.Report.{report}
 use Rattle.turn_law.specs.LinesBehind.{lines_behind}
-use Rattle.front_law.specs.FrontLaw.{IsFrontOf}
+use Rattle.report_compare.specs.front_law.FrontLaw.{IsFrontOf}
 use Rattle.report_compare.specs.FirstLines.{first_lines}
 
 -- What stands above the later entries is told by the first ones alone: the lines before those behind the first lines of the

@@ -22,7 +22,7 @@ use Rattle.call_journal.specs.declared.reply.DriverReply.{DriverReply}
 use Rattle.call_journal.specs.declared.reply.CallerReply.{CallerReply}
 use Rattle.call_journal.specs.declared.entry.What.{What}
 use Rattle.call_journal.specs.declared.entry.Entry.{Entry}
-use Rattle.config_assembly.specs.Orders.{Name}
+use Rattle.xds_history.specs.config_assembly.Orders.{Name}
 use Rattle.xds_history.specs.Setting.{Setting}
 use Rattle.xds_history.specs.declared.page.Page.{Page}
 use Rattle.xds_history.specs.Page.{latest, latest_number}

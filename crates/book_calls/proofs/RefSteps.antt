@@ -12,7 +12,7 @@ use Rattle.cluster_refs.specs.CallReferences.{References, is_call, pin_of, SetsP
 use Rattle.call_journal.specs.declared.event.CallerEvent.{CallerEvent}
 use Rattle.call_journal.specs.declared.reply.CallerReply.{CallerReply}
 use Rattle.call_journal.specs.declared.entry.Entry.{Entry}
-use Rattle.config_assembly.specs.Orders.{Name}
+use Rattle.xds_history.specs.config_assembly.Orders.{Name}
 use Rattle.xds_history.specs.Words.{first_some}
 use Rattle.xds_history.specs.declared.page.Page.{Page}
 use Rattle.xds_history.specs.Page.{latest}

@@ -15,8 +15,8 @@ use Rattle.call_journal.specs.declared.entry.What.{What}
 use Rattle.call_journal.specs.declared.entry.Entry.{Entry}
 use Rattle.cluster_refs.specs.declared.pins.Pin.{Pin}
 use Rattle.cluster_refs.specs.CallReferences.{References, pin_of, IsPinned, IsHeld}
-use Rattle.config_assembly.specs.Orders.{Name, name_cmp, sorted}
-use Rattle.config_assembly.proofs.Members.{from_joined, from_option, from_sorted}
+use Rattle.xds_history.specs.config_assembly.Orders.{Name, name_cmp, sorted}
+use Rattle.xds_history.proofs.config_assembly.Members.{from_joined, from_option, from_sorted}
 use Rattle.xds_history.specs.Setting.{Setting}
 use Rattle.xds_history.specs.declared.page.Page.{Page}
 use Rattle.xds_history.specs.References.{snapshot_at, pinned, held, calls, names_in, refers_to, references}

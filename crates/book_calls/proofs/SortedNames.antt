@@ -10,7 +10,7 @@ use Rattle.std.specs.List.{AllByRecursion}
 use Rattle.std.proofs.lemmas.Cmp.{nat_list_cmp_total}
 use Rattle.std.proofs.lemmas.Map.Lookups.{exact_bytes, btree_set_from_contains}
 use Rattle.std.proofs.lemmas.Map.Views.{btree_set_contains_iff}
-use Rattle.config_assembly.specs.Orders.{Name, name_cmp, put_in, sorted}
+use Rattle.xds_history.specs.config_assembly.Orders.{Name, name_cmp, put_in, sorted}
 
 module _ {X : Type 0} where
   all_inserted_at : (P : X → Type 0) (o : Ordering) (k x : X) (xs more : List X) → P k → P x → AllByRecursion P xs → AllByRecursion P more → AllByRecursion P (match_ordering o (k ∷ x ∷ xs) (x ∷ xs) (x ∷ more))

@@ -9,7 +9,7 @@ use Rattle.call_journal.specs.declared.event.DriverEvent.{DriverEvent}
 use Rattle.call_journal.specs.declared.reply.CallerReply.{CallerReply}
 use Rattle.call_journal.specs.declared.reply.DriverReply.{DriverReply}
 use Rattle.cluster_refs.specs.CallReferences.{References, AreRetained}
-use Rattle.config_assembly.specs.Orders.{Name}
+use Rattle.xds_history.specs.config_assembly.Orders.{Name}
 use Rattle.xds_history.specs.Setting.{Setting}
 use Rattle.xds_history.specs.References.{references}
 use Rattle.xds_history.specs.Pages.{pages, page_of, called, driven}

@@ -4,7 +4,7 @@ use Rattle.std.specs.Option.{option_map_or}
 use Rattle.xc_base.specs.declared.names.CallId.{CallId}
 use Rattle.cluster_refs.specs.declared.pins.Pin.{Pin}
 use Rattle.cluster_refs.specs.CallReferences.{References, pin_of, hold_of, SetsPin, SetsHold}
-use Rattle.config_assembly.specs.Orders.{Name}
+use Rattle.xds_history.specs.config_assembly.Orders.{Name}
 use Rattle.xds_history.specs.declared.page.Page.{Page}
 use Rattle.xds_history.specs.References.{snapshot_at, pinned, held, names_in}
 

@@ -2,7 +2,7 @@
 ghost use Rattle.std.specs.Prelude.{◌≡◌, ◌++◌, map, IfOk, OnOk};
 ghost use Rattle.std.specs.Option.{option_copied};
 ghost use Rattle.xds_config.specs.RouteValues.{action_clusters, host_clusters};
-ghost use Rattle.config_assembly.specs.Front.{names_of_front};
+ghost use Rattle.xds_history.specs.config_assembly.Front.{names_of_front};
 ghost use Rattle.xds_history.specs.References.{names_in, routed_to};
 
 use cluster_tree::Snapshot;

@@ -14,3 +14,4 @@ pub use calls::Calls;
 pub use latest_snapshot::Latest;
 pub use own_routes::{TicketRoute, own_route};
 pub use pinning::Pinning;
+pub use xds_history::Prepared;

@@ -7,9 +7,9 @@ use Rattle.xds_cache.specs.declared.fate.Known.{Known}
 use Rattle.xds_cache.specs.KeptFates.{Watched as Rows, known_of}
 use Rattle.config_assembly.specs.Watching.{has_key}
 use Rattle.dep_manager.specs.KeptAssemblies.{AreChanges}
-use Rattle.book_fates.specs.declared.answered.Answered.{Answered}
-use Rattle.book_fates.specs.Delivered.{HasTouched, delivered_in, told_as}
-use Rattle.book_fates.specs.FateSteps.{Stepped, out_among, told_step}
+use Rattle.driver_step.specs.book_fates.declared.answered.Answered.{Answered}
+use Rattle.driver_step.specs.book_fates.Delivered.{HasTouched, delivered_in, told_as}
+use Rattle.driver_step.specs.book_fates.FateSteps.{Stepped, out_among, told_step}
 
 -- ---- by what an event makes of each key
 

@@ -7,3 +7,5 @@ pub mod PublishedLemmas
 pub mod SteppedLemmas
 pub mod StillLemmas
 pub mod EntryLemmas
+pub use Rattle.book_hearing.proofs.book_streams as book_streams
+pub use Rattle.book_trees.proofs as book_trees

@@ -6,15 +6,15 @@ use Rattle.ads_stream.specs.declared.verdict.Verdict.{Verdict}
 use Rattle.call_journal.specs.declared.event.DriverEvent.{DriverEvent}
 use Rattle.call_journal.specs.declared.reply.DriverReply.{DriverReply}
 use Rattle.call_journal.specs.declared.entry.Entry.{Entry}
-use Rattle.xds_history.specs.Setting.{Setting}
-use Rattle.xds_history.specs.Responses.{Came, answered}
-use Rattle.xds_history.specs.declared.responses.Told.{Told}
-use Rattle.xds_history.specs.declared.page.Page.{Page}
-use Rattle.book_fates.specs.declared.answered.Answered.{Answered}
-use Rattle.book_fates.specs.declared.timed_fates.Fates.{Fates}
-use Rattle.book_fates.specs.Delivered.{delivered_by, delivered_in}
-use Rattle.book_fates.specs.FatesKept.{IsMarkedAt, is_moment, turned_by}
-use Rattle.book_fates.proofs.PageLemmas.{answered_turns_none}
+use Rattle.book_trees.specs.xds_history.Setting.{Setting}
+use Rattle.book_trees.specs.xds_history.Responses.{Came, answered}
+use Rattle.book_trees.specs.xds_history.declared.responses.Told.{Told}
+use Rattle.book_trees.specs.xds_history.declared.page.Page.{Page}
+use Rattle.driver_step.specs.book_fates.declared.answered.Answered.{Answered}
+use Rattle.driver_step.specs.book_fates.declared.timed_fates.Fates.{Fates}
+use Rattle.driver_step.specs.book_fates.Delivered.{delivered_by, delivered_in}
+use Rattle.driver_step.specs.book_fates.FatesKept.{IsMarkedAt, is_moment, turned_by}
+use Rattle.driver_step.proofs.book_fates.PageLemmas.{answered_turns_none}
 
 -- what a success gives
 pub on_ok : {T E A B : Type 0} (result : Result T E) → OnOk result A → (A → B) → OnOk result B

@@ -11,10 +11,10 @@ use Rattle.cluster_tree.specs.ViewChanges.{IsChangeMark}
 use Rattle.call_journal.specs.declared.event.DriverEvent.{DriverEvent}
 use Rattle.call_journal.specs.declared.entry.Entry.{Entry}
 use Rattle.config_assembly.specs.Orders.{Name}
-use Rattle.xds_history.specs.Setting.{Setting}
-use Rattle.xds_history.specs.Page.{latest}
-use Rattle.xds_history.specs.Pages.{pages, present_after, snapshot_of}
-use Rattle.xds_history.specs.Right.{IsNumber}
+use Rattle.book_trees.specs.xds_history.Setting.{Setting}
+use Rattle.book_trees.specs.xds_history.Page.{latest}
+use Rattle.book_trees.specs.xds_history.Pages.{pages, present_after, snapshot_of}
+use Rattle.book_trees.specs.xds_history.Right.{IsNumber}
 use Rattle.book_driver.specs.declared.configured_trees.Published.{Published}
 use Rattle.book_driver.specs.declared.configured_trees.Seen.{Seen}
 use Rattle.book_driver.specs.ShownTrees.{AreSeen, IsNews, IsPublication, IsSeen, IsShownBy, number_in, published_by, snapshot_by, stands_with, trees_with}

@@ -8,17 +8,17 @@ use Rattle.xds_name.specs.declared.target.Target.{Target}
 use Rattle.ads_stream.specs.declared.verdict.Verdict.{Verdict}
 use Rattle.ads_stream.specs.declared.stream.StreamState.{StreamState}
 use Rattle.proto_discovery.specs.declared.response.Response.{Response}
-use Rattle.resource_check.specs.declared.delivery.Prepared.{Prepared}
+use Rattle.book_trees.specs.resource_check.declared.delivery.Prepared.{Prepared}
 use Rattle.call_journal.specs.declared.event.DriverEvent.{DriverEvent}
 use Rattle.call_journal.specs.declared.entry.Entry.{Entry}
 use Rattle.config_assembly.specs.Orders.{Name}
-use Rattle.xds_history.specs.Setting.{Setting, setting_of}
-use Rattle.xds_history.specs.Streams.{is_up}
-use Rattle.xds_history.specs.Responses.{answered_kind, told_by, told_in, verdict, verdict_on_reading}
-use Rattle.book_streams.specs.StreamsKept.{states_of}
-use Rattle.book_streams.proofs.TurnLemmas.{none_in}
-use Rattle.book_fates.specs.declared.answered.Answered.{Answered}
-use Rattle.book_fates.specs.Delivered.{Delivered, delivered_by, delivered_in}
+use Rattle.book_trees.specs.xds_history.Setting.{Setting, setting_of}
+use Rattle.book_trees.specs.xds_history.Streams.{is_up}
+use Rattle.book_trees.specs.xds_history.Responses.{answered_kind, told_by, told_in, verdict, verdict_on_reading}
+use Rattle.driver_step.specs.book_streams.StreamsKept.{states_of}
+use Rattle.driver_step.proofs.book_streams.TurnLemmas.{none_in}
+use Rattle.driver_step.specs.book_fates.declared.answered.Answered.{Answered}
+use Rattle.driver_step.specs.book_fates.Delivered.{Delivered, delivered_by, delivered_in}
 use Rattle.book_hearing.specs.declared.event_hearing.Heard.{Heard}
 use Rattle.book_hearing.specs.HeardEvents.{IsHeard, texts_told}
 use Rattle.book_driver.specs.declared.watcher.Watcher.{Watcher}

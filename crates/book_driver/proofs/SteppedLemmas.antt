@@ -4,13 +4,13 @@ use Rattle.std.specs.Prelude.{IfSome}
 use Rattle.std.specs.Option.{option_or}
 use Rattle.xds_config.specs.declared.config.Config.{Config}
 use Rattle.xds_config.specs.Configs.{IsLawfulConfig}
-use Rattle.resource_check.specs.declared.delivery.Prepared.{Prepared}
+use Rattle.book_trees.specs.resource_check.declared.delivery.Prepared.{Prepared}
 use Rattle.call_journal.specs.declared.event.DriverEvent.{DriverEvent}
 use Rattle.call_journal.specs.declared.entry.Entry.{Entry}
-use Rattle.xds_history.specs.Setting.{Setting}
-use Rattle.xds_history.specs.declared.page.Page.{Page}
-use Rattle.xds_history.specs.Page.{config_now}
-use Rattle.xds_history.specs.Pages.{driven, pages}
+use Rattle.book_trees.specs.xds_history.Setting.{Setting}
+use Rattle.book_trees.specs.xds_history.declared.page.Page.{Page}
+use Rattle.book_trees.specs.xds_history.Page.{config_now}
+use Rattle.book_trees.specs.xds_history.Pages.{driven, pages}
 use Rattle.book_trees.specs.declared.reported_trees.ReportedTrees.{ReportedTrees}
 use Rattle.book_trees.specs.TreesKept.{AreTreesAt, AreTreesWith, IsPageOf}
 use Rattle.driver_step.specs.DriverSteps.{IsAnswer, IsNextDriven}

@@ -5,12 +5,12 @@ use Rattle.std.proofs.lemmas.List.FromFn.{length-map-range_with_len}
 use Rattle.call_journal.specs.declared.entry.What.{What}
 use Rattle.call_journal.specs.declared.entry.Entry.{Entry}
 use Rattle.config_assembly.specs.Orders.{Name}
-use Rattle.xds_history.specs.Setting.{Setting}
-use Rattle.xds_history.specs.References.{references, references_seen}
-use Rattle.xds_history.specs.Pages.{pages}
-use Rattle.xds_history.specs.HistoryLaws.{is_call}
-use Rattle.xds_history.proofs.LawProofs.{entry_of}
-use Rattle.book_streams.specs.StreamsKept.{place_of, state_of}
+use Rattle.book_trees.specs.xds_history.Setting.{Setting}
+use Rattle.book_trees.specs.xds_history.References.{references, references_seen}
+use Rattle.book_trees.specs.xds_history.Pages.{pages}
+use Rattle.book_trees.specs.xds_history.HistoryLaws.{is_call}
+use Rattle.book_trees.proofs.xds_history.LawProofs.{entry_of}
+use Rattle.driver_step.specs.book_streams.StreamsKept.{place_of, state_of}
 use Rattle.book_driver.specs.declared.subscriptions.Settled.{Settled}
 use Rattle.book_driver.specs.Subscribed.{has_driven, names_kept, names_with}
 use Rattle.book_driver.specs.DriverKept.{CanRepeat, DriversHaveHistory, IsDriverAt, StillRepeats, StreamsAreAll}

@@ -3,27 +3,27 @@ use Rattle.std.proofs.Common.{◌≡◌, ℕ, Bool, List, [], ◌∷◌, Option,
 use Rattle.std.specs.Prelude.{IfSome}
 use Rattle.xc_base.specs.declared.names.Key.{Key}
 use Rattle.ads_stream.specs.declared.verdict.Verdict.{Verdict}
-use Rattle.resource_check.specs.declared.delivery.Prepared.{Prepared}
+use Rattle.book_trees.specs.resource_check.declared.delivery.Prepared.{Prepared}
 use Rattle.call_journal.specs.declared.event.DriverEvent.{DriverEvent}
 use Rattle.call_journal.specs.declared.event.CallerEvent.{CallerEvent}
 use Rattle.call_journal.specs.declared.reply.CallerReply.{CallerReply}
 use Rattle.call_journal.specs.declared.reply.DriverReply.{DriverReply}
 use Rattle.call_journal.specs.declared.entry.Entry.{Entry}
 use Rattle.config_assembly.specs.Orders.{Name}
-use Rattle.xds_history.specs.Setting.{Setting}
-use Rattle.xds_history.specs.declared.page.Page.{Page}
-use Rattle.xds_history.specs.Page.{watched_now}
-use Rattle.xds_history.specs.References.{references}
-use Rattle.xds_history.specs.Pages.{called, driven, pages}
+use Rattle.book_trees.specs.xds_history.Setting.{Setting}
+use Rattle.book_trees.specs.xds_history.declared.page.Page.{Page}
+use Rattle.book_trees.specs.xds_history.Page.{watched_now}
+use Rattle.book_trees.specs.xds_history.References.{references}
+use Rattle.book_trees.specs.xds_history.Pages.{called, driven, pages}
 use Rattle.std.specs.declared.alloc.Global.{Global}
 use Rattle.std.specs.declared.vec.Vec.{Vec}
-use Rattle.xds_history.specs.HistoryLaws.{is_report}
-use Rattle.book_fates.specs.FatesKept.{keys_in}
+use Rattle.book_trees.specs.xds_history.HistoryLaws.{is_report}
+use Rattle.driver_step.specs.book_fates.FatesKept.{keys_in}
 use Rattle.driver_step.specs.SettledKeys.{ChangesNoKey, IsSettledAt, as_settled}
 use Rattle.driver_step.proofs.SettleSteps.{callers_leave_settled, drivers_settle_keys}
 use Rattle.driver_step.proofs.ReportSteps.{reports_change_no_key, reports_leave_fates, reports_leave_streams}
-use Rattle.book_streams.proofs.PlaceLemmas.{callers_change_nothing}
-use Rattle.book_fates.proofs.PageLemmas.{callers_leave}
+use Rattle.driver_step.proofs.book_streams.PlaceLemmas.{callers_change_nothing}
+use Rattle.driver_step.proofs.book_fates.PageLemmas.{callers_leave}
 use Rattle.book_driver.specs.declared.key_renewal.Renewal.{Renewal}
 use Rattle.book_driver.specs.declared.subscriptions.Settled.{Settled}
 use Rattle.book_driver.specs.declared.subscriptions.Subscriptions.{Subscriptions}

@@ -15,30 +15,30 @@ use Rattle.call_journal.specs.declared.entry.Entry.{Entry}
 use Rattle.config_assembly.specs.Orders.{Name}
 use Rattle.config_assembly.specs.Watching.{IsWatching, has_key}
 use Rattle.dep_manager.specs.KeptAssemblies.{IsRightBy}
-use Rattle.xds_history.specs.Setting.{Setting, setting_of}
-use Rattle.xds_history.specs.Responses.{Came}
-use Rattle.xds_history.specs.declared.page.Page.{Page}
+use Rattle.book_trees.specs.xds_history.Setting.{Setting, setting_of}
+use Rattle.book_trees.specs.xds_history.Responses.{Came}
+use Rattle.book_trees.specs.xds_history.declared.page.Page.{Page}
 use Rattle.xc_base.specs.declared.names.Authority.{Authority}
-use Rattle.xds_history.specs.declared.page.Watched.{Watched}
-use Rattle.xds_history.specs.Pages.{came, driven, page_of, pages, present_after}
-use Rattle.xds_history.specs.References.{references}
-use Rattle.xds_history.specs.Requests.{requests}
-use Rattle.xds_history.specs.Fates.{marked, watch, with_mark}
-use Rattle.book_streams.specs.StreamsKept.{states_of, states_with, watched_keys}
-use Rattle.book_fates.specs.declared.timed_fates.Fates.{Fates}
-use Rattle.book_fates.specs.FateSteps.{Knows, WatchesOnly}
-use Rattle.book_fates.specs.Timing.{AreAskedBy, NoneWanted, StoppedBy, TurnsAt, timed_at, unreached_among}
+use Rattle.book_trees.specs.xds_history.declared.page.Watched.{Watched}
+use Rattle.book_trees.specs.xds_history.Pages.{came, driven, page_of, pages, present_after}
+use Rattle.book_trees.specs.xds_history.References.{references}
+use Rattle.book_trees.specs.xds_history.Requests.{requests}
+use Rattle.book_trees.specs.xds_history.Fates.{marked, watch, with_mark}
+use Rattle.driver_step.specs.book_streams.StreamsKept.{states_of, states_with, watched_keys}
+use Rattle.driver_step.specs.book_fates.declared.timed_fates.Fates.{Fates}
+use Rattle.driver_step.specs.book_fates.FateSteps.{Knows, WatchesOnly}
+use Rattle.driver_step.specs.book_fates.Timing.{AreAskedBy, NoneWanted, StoppedBy, TurnsAt, timed_at, unreached_among}
 use Rattle.xc_keys.specs.Keys.{is_key}
 use Rattle.xc_keys.proofs.KeyLemmas.{same_key}
 use Rattle.xds_cache.specs.declared.fate.Known.{Known}
 use Rattle.xds_cache.specs.KeptFates.{Watched as Rows, fate_at, fate_of, known_of, watched}
 use Rattle.config_assembly.specs.Reach.{is_wanted, missing}
 use Rattle.watch_timers.specs.Timers.{started_at}
-use Rattle.book_fates.specs.FatesKept.{IsKeptAt, IsMarkedAt, keys_in, turned_by}
-use Rattle.book_fates.proofs.KeptLemmas.{has_kept, kept_only, keys_watched}
-use Rattle.book_fates.proofs.PageLemmas.{drivers_settle}
+use Rattle.driver_step.specs.book_fates.FatesKept.{IsKeptAt, IsMarkedAt, keys_in, turned_by}
+use Rattle.driver_step.proofs.book_fates.KeptLemmas.{has_kept, kept_only, keys_watched}
+use Rattle.driver_step.proofs.book_fates.PageLemmas.{drivers_settle}
 use Rattle.driver_step.specs.DriverSteps.{Assembly, IsAssembly, IsMadeOf, made_or, marks_with, page_by, watched_by}
-use Rattle.xds_history.specs.Page.{config_now, watched_now}
+use Rattle.book_trees.specs.xds_history.Page.{config_now, watched_now}
 use Rattle.driver_step.proofs.AnswerSteps.{caches_assemble, page_by_is}
 use Rattle.book_driver.specs.declared.watcher.Watcher.{Watcher}
 use Rattle.book_driver.specs.WatcherKept.{IsHeardBy, IsReachedBy, IsTimely, IsWatcherAt, assembly_with, setting_by}

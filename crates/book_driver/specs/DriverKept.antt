@@ -1,7 +1,7 @@
 -- What is kept of a channel but for its journal and its calls, and what it is of the history.
 use Rattle.std.specs.Prelude.{◌≡◌, ℕ, List, ◌∷◌, ◌++◌, length, true, not, Option, IfSome, IsTrue, option_map}
 use Rattle.std.specs.List.{list_all}
-use Rattle.resource_check.specs.declared.delivery.Prepared.{Prepared}
+use Rattle.book_trees.specs.resource_check.declared.delivery.Prepared.{Prepared}
 use Rattle.call_journal.specs.declared.event.DriverEvent.{DriverEvent}
 use Rattle.call_journal.specs.declared.event.CallerEvent.{CallerEvent}
 use Rattle.call_journal.specs.declared.reply.CallerReply.{CallerReply}
@@ -9,14 +9,14 @@ use Rattle.call_journal.specs.declared.reply.DriverReply.{DriverReply}
 use Rattle.call_journal.specs.declared.entry.What.{What}
 use Rattle.call_journal.specs.declared.entry.Entry.{Entry}
 use Rattle.config_assembly.specs.Orders.{Name}
-use Rattle.xds_history.specs.Setting.{Setting}
-use Rattle.xds_history.specs.Responses.{answered_kind}
-use Rattle.xds_history.specs.declared.page.Page.{Page}
-use Rattle.xds_history.specs.Page.{latest_number}
-use Rattle.xds_history.specs.References.{references}
-use Rattle.xds_history.specs.Pages.{called, driven, page_of, pages}
-use Rattle.xds_history.specs.Right.{IsDriverReply}
-use Rattle.xds_history.specs.HistoryLaws.{is_call}
+use Rattle.book_trees.specs.xds_history.Setting.{Setting}
+use Rattle.book_trees.specs.xds_history.Responses.{answered_kind}
+use Rattle.book_trees.specs.xds_history.declared.page.Page.{Page}
+use Rattle.book_trees.specs.xds_history.Page.{latest_number}
+use Rattle.book_trees.specs.xds_history.References.{references}
+use Rattle.book_trees.specs.xds_history.Pages.{called, driven, page_of, pages}
+use Rattle.book_trees.specs.xds_history.Right.{IsDriverReply}
+use Rattle.book_trees.specs.xds_history.HistoryLaws.{is_call}
 use Rattle.book_trees.specs.ReportedLaws.{ShowsWhatStands}
 use Rattle.book_driver.specs.declared.channel_driver.Driver.{Driver}
 use Rattle.book_driver.specs.declared.channel_driver.Stepped.{Stepped}

@@ -3,16 +3,16 @@ use Rattle.std.specs.Prelude.{◌≡◌, ℕ, List, [], ◌∷◌, Option, None,
 use Rattle.xc_base.specs.declared.names.Key.{Key}
 use Rattle.xc_base.specs.declared.names.Kind.{Kind}
 use Rattle.ads_stream.specs.declared.verdict.Verdict.{Verdict}
-use Rattle.resource_check.specs.declared.delivery.Prepared.{Prepared}
+use Rattle.book_trees.specs.resource_check.declared.delivery.Prepared.{Prepared}
 use Rattle.call_journal.specs.declared.event.DriverEvent.{DriverEvent}
 use Rattle.call_journal.specs.declared.reply.DriverReply.{DriverReply}
 use Rattle.call_journal.specs.declared.entry.Entry.{Entry}
 use Rattle.config_assembly.specs.Orders.{Name}
-use Rattle.xds_history.specs.Setting.{Setting}
-use Rattle.xds_history.specs.Responses.{answered, answered_kind, stopped_at, verdict}
-use Rattle.xds_history.specs.Requests.{requests}
-use Rattle.xds_history.specs.Pages.{driven, pages}
-use Rattle.book_streams.specs.StreamsLaws.{came_with}
+use Rattle.book_trees.specs.xds_history.Setting.{Setting}
+use Rattle.book_trees.specs.xds_history.Responses.{answered, answered_kind, stopped_at, verdict}
+use Rattle.book_trees.specs.xds_history.Requests.{requests}
+use Rattle.book_trees.specs.xds_history.Pages.{driven, pages}
+use Rattle.driver_step.specs.book_streams.StreamsLaws.{came_with}
 use Rattle.book_hearing.specs.HeardEvents.{texts_of}
 use Rattle.driver_step.specs.DriverSteps.{IsAssembly, watched_by}
 use Rattle.book_driver.specs.declared.watcher.Watcher.{Watcher}

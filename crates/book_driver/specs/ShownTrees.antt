@@ -8,12 +8,12 @@ use Rattle.cluster_tree.specs.declared.snapshot.Snapshot.{Snapshot}
 use Rattle.cluster_tree.specs.ViewChanges.{ArePickable, IsChangeMark}
 use Rattle.call_journal.specs.declared.event.DriverEvent.{DriverEvent}
 use Rattle.call_journal.specs.declared.entry.Entry.{Entry}
-use Rattle.xds_history.specs.Setting.{Setting}
-use Rattle.xds_history.specs.declared.page.ClusterTrees.{ClusterTrees}
-use Rattle.xds_history.specs.Page.{config_now, latest, trees_now}
-use Rattle.xds_history.specs.Trees.{trees_after}
-use Rattle.xds_history.specs.Pages.{pages, present_after, snapshot_of}
-use Rattle.xds_history.specs.Right.{IsNumber, Shown, standing}
+use Rattle.book_trees.specs.xds_history.Setting.{Setting}
+use Rattle.book_trees.specs.xds_history.declared.page.ClusterTrees.{ClusterTrees}
+use Rattle.book_trees.specs.xds_history.Page.{config_now, latest, trees_now}
+use Rattle.book_trees.specs.xds_history.Trees.{trees_after}
+use Rattle.book_trees.specs.xds_history.Pages.{pages, present_after, snapshot_of}
+use Rattle.book_trees.specs.xds_history.Right.{IsNumber, Shown, standing}
 use Rattle.book_trees.specs.ReportedLaws.{stands_now}
 use Rattle.book_trees.specs.TreesKept.{AreTreesAt, AreTreesWith, StayInPlace, cluster_names, views_after}
 use Rattle.book_driver.specs.declared.configured_trees.ConfiguredTrees.{ConfiguredTrees}

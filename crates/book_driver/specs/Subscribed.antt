@@ -2,18 +2,18 @@
 use Rattle.std.specs.Prelude.{◌≡◌, ℕ, List, [], ◌∷◌, Bool, not, Option, None, Some, IfSome, is_some}
 use Rattle.std.specs.List.{list_any}
 use Rattle.xc_base.specs.declared.names.Key.{Key}
-use Rattle.resource_check.specs.declared.delivery.Prepared.{Prepared}
+use Rattle.book_trees.specs.resource_check.declared.delivery.Prepared.{Prepared}
 use Rattle.call_journal.specs.declared.event.DriverEvent.{DriverEvent}
 use Rattle.call_journal.specs.declared.event.CallerEvent.{CallerEvent}
 use Rattle.call_journal.specs.declared.reply.CallerReply.{CallerReply}
 use Rattle.call_journal.specs.declared.entry.Entry.{Entry}
 use Rattle.config_assembly.specs.Orders.{Name}
-use Rattle.xds_history.specs.Setting.{Setting}
-use Rattle.xds_history.specs.Requests.{requests}
-use Rattle.xds_history.specs.References.{references_seen}
-use Rattle.xds_history.specs.Pages.{called, driven, pages}
-use Rattle.xds_history.specs.HistoryLaws.{is_call}
-use Rattle.book_streams.specs.StreamsLaws.{came_with}
+use Rattle.book_trees.specs.xds_history.Setting.{Setting}
+use Rattle.book_trees.specs.xds_history.Requests.{requests}
+use Rattle.book_trees.specs.xds_history.References.{references_seen}
+use Rattle.book_trees.specs.xds_history.Pages.{called, driven, pages}
+use Rattle.book_trees.specs.xds_history.HistoryLaws.{is_call}
+use Rattle.driver_step.specs.book_streams.StreamsLaws.{came_with}
 use Rattle.driver_step.specs.DriverSteps.{IsAssembly, watched_by}
 use Rattle.driver_step.specs.SettledKeys.{IsSettledAt}
 use Rattle.book_driver.specs.declared.key_renewal.Renewal.{Renewal}

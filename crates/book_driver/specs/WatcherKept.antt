@@ -9,14 +9,14 @@ use Rattle.call_journal.specs.declared.entry.Entry.{Entry}
 use Rattle.config_assembly.specs.Orders.{Name}
 use Rattle.config_assembly.specs.Watching.{IsWatching}
 use Rattle.dep_manager.specs.KeptAssemblies.{IsRightBy}
-use Rattle.xds_history.specs.Setting.{Setting, setting_of}
-use Rattle.xds_history.specs.Responses.{Came}
-use Rattle.xds_history.specs.Pages.{pages, present_after}
-use Rattle.xds_history.specs.Page.{config_now}
-use Rattle.xds_history.specs.References.{references}
-use Rattle.book_streams.specs.StreamsKept.{states_of, states_with}
-use Rattle.book_fates.specs.declared.timed_fates.Fates.{Fates}
-use Rattle.book_fates.specs.FatesKept.{IsKeptAt, IsMarkedAt, turned_by}
+use Rattle.book_trees.specs.xds_history.Setting.{Setting, setting_of}
+use Rattle.book_trees.specs.xds_history.Responses.{Came}
+use Rattle.book_trees.specs.xds_history.Pages.{pages, present_after}
+use Rattle.book_trees.specs.xds_history.Page.{config_now}
+use Rattle.book_trees.specs.xds_history.References.{references}
+use Rattle.driver_step.specs.book_streams.StreamsKept.{states_of, states_with}
+use Rattle.driver_step.specs.book_fates.declared.timed_fates.Fates.{Fates}
+use Rattle.driver_step.specs.book_fates.FatesKept.{IsKeptAt, IsMarkedAt, turned_by}
 use Rattle.driver_step.specs.DriverSteps.{Assembly}
 use Rattle.book_driver.specs.declared.watcher.Watcher.{Watcher}
 

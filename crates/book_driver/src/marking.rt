@@ -2,18 +2,18 @@
 ghost use Rattle.std.specs.Prelude.{◌≡◌, List, [], None, Some, IfOk, OnOk, IfSome, option_map, unwrap_or, if◌then◌else◌};
 ghost use Rattle.xc_base.specs.declared.names.Key.{Key as KeyValue};
 ghost use Rattle.call_journal.specs.declared.entry.Entry.{Entry as EntryValue};
-ghost use Rattle.xds_history.specs.Setting.{Setting};
-ghost use Rattle.xds_history.specs.Responses.{Came, answered};
-ghost use Rattle.xds_history.specs.Streams.{is_broken, is_unreadable};
-ghost use Rattle.xds_history.specs.declared.page.Page.{Page as PageValue};
+ghost use Rattle.book_trees.specs.xds_history.Setting.{Setting};
+ghost use Rattle.book_trees.specs.xds_history.Responses.{Came, answered};
+ghost use Rattle.book_trees.specs.xds_history.Streams.{is_broken, is_unreadable};
+ghost use Rattle.book_trees.specs.xds_history.declared.page.Page.{Page as PageValue};
 ghost use Rattle.dep_manager.specs.KeptAssemblies.{AreChanges};
-ghost use Rattle.book_fates.specs.FateSteps.{WatchesOnly};
-ghost use Rattle.book_fates.specs.Delivered.{HasTouched, IsReady, delivered_by, delivered_in};
-ghost use Rattle.book_fates.specs.FatesKept.{IsKeptAt, IsMarkedAt, is_moment, turned_by};
+ghost use Rattle.driver_step.specs.book_fates.FateSteps.{WatchesOnly};
+ghost use Rattle.driver_step.specs.book_fates.Delivered.{HasTouched, IsReady, delivered_by, delivered_in};
+ghost use Rattle.driver_step.specs.book_fates.FatesKept.{IsKeptAt, IsMarkedAt, is_moment, turned_by};
 
 use ads_stream::Verdict;
-use book_fates::{Answered, Fates};
 use call_journal::{BytesHow, DriverEvent};
+use driver_step::{Answered, Fates};
 use std::sync::ledger::Ledger;
 use xc_base::{Authority, Key, List, Memory, Steps, Time};
 

@@ -11,3 +11,5 @@ pub mod PageLemmas
 pub mod QuietLemmas
 pub mod NameLemmas
 pub mod TouchLemmas
+pub use Rattle.xds_history.proofs.dep_manager as dep_manager
+pub use Rattle.xds_history.proofs as xds_history

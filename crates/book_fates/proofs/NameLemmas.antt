@@ -8,7 +8,7 @@ use Rattle.std.proofs.lemmas.List.{drop_more, drop_all}
 use Rattle.std.proofs.lemmas.Slice.Eq.{bytes_eq-Decides}
 use Rattle.xc_base.specs.declared.names.Key.{Key}
 use Rattle.config_assembly.specs.Orders.{Name}
-use Rattle.resource_check.specs.declared.delivery.Delivery.{Delivery}
+use Rattle.xds_history.specs.resource_check.declared.delivery.Delivery.{Delivery}
 use Rattle.xds_history.specs.declared.responses.Told.{Told}
 use Rattle.xds_history.specs.Responses.{is_named}
 use Rattle.xds_history.specs.Fates.{has_another_name, lacks}

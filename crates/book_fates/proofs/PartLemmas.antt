@@ -14,10 +14,10 @@ use Rattle.xds_cache.specs.declared.fate.Known.{Known}
 use Rattle.xds_cache.specs.KeptFates.{after_refusal}
 use Rattle.config_assembly.specs.Orders.{Name}
 use Rattle.xds_history.specs.Words.{among, same_kind, lives_at}
-use Rattle.resource_check.specs.declared.delivery.Delivery.{Delivery}
+use Rattle.xds_history.specs.resource_check.declared.delivery.Delivery.{Delivery}
 use Rattle.xds_history.specs.declared.responses.Told.{Told}
 use Rattle.xds_history.specs.declared.page.Mark.{Mark}
-use Rattle.resource_check.specs.Deliveries.{told_apart, with_name}
+use Rattle.xds_history.specs.resource_check.Deliveries.{told_apart, with_name}
 use Rattle.xds_history.specs.Responses.{delivers, is_named}
 use Rattle.xds_history.specs.Fates.{mark_of, deletes, has_value, lacks, has_another_name}
 use Rattle.book_fates.specs.FateSteps.{after_mark, after_marks, brings, is_let_go, part_step, parts_step, gone_step, OnlyRefuses, AreApart}

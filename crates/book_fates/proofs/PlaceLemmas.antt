@@ -17,7 +17,7 @@ use Rattle.xds_cache.specs.declared.fate.Known.{Known}
 use Rattle.xds_cache.specs.KeptFates.{Watched as Rows, known_of, Changes, accepted, refused}
 use Rattle.config_assembly.specs.Orders.{Name}
 use Rattle.xds_history.specs.Words.{same_kind, lives_at}
-use Rattle.resource_check.specs.declared.delivery.Delivery.{Delivery}
+use Rattle.xds_history.specs.resource_check.declared.delivery.Delivery.{Delivery}
 use Rattle.xds_history.specs.Fates.{mark_of}
 use Rattle.book_fates.specs.FateSteps.{Stepped, after_mark, key_at, part_step, parts_step}
 use Rattle.book_fates.proofs.PartLemmas.{parts_last}

@@ -17,7 +17,7 @@ use Rattle.xds_cache.specs.declared.fate.Known.{Known}
 use Rattle.xds_cache.specs.KeptFates.{Watched as Rows}
 use Rattle.config_assembly.specs.Orders.{Name}
 use Rattle.config_assembly.specs.Watching.{has_key}
-use Rattle.resource_check.specs.declared.delivery.Delivery.{Delivery}
+use Rattle.xds_history.specs.resource_check.declared.delivery.Delivery.{Delivery}
 use Rattle.xds_history.specs.Words.{lives_at, same_kind}
 use Rattle.xds_history.specs.Responses.{is_named}
 use Rattle.xds_history.specs.Fates.{deletes, has_value, lacks, mark_of}

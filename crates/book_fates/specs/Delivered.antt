@@ -6,7 +6,7 @@ use Rattle.xc_base.specs.declared.names.Key.{Key}
 use Rattle.xds_cache.specs.declared.fate.Known.{Known}
 use Rattle.xds_cache.specs.KeptFates.{Watched as Rows, known_of}
 use Rattle.config_assembly.specs.Watching.{has_key}
-use Rattle.resource_check.specs.declared.delivery.Delivery.{Delivery}
+use Rattle.xds_history.specs.resource_check.declared.delivery.Delivery.{Delivery}
 use Rattle.xds_history.specs.declared.responses.Told.{Told}
 use Rattle.xds_history.specs.Fates.{deletes}
 use Rattle.book_fates.specs.declared.answered.Answered.{Answered}
@@ -45,8 +45,9 @@ abbrev pub most_touched : Option Answered → List Key → ℕ
 most_touched None reached = 0
 most_touched (Some a) reached = if deletes a.kind then length reached else length a.parts
 
--- no name is delivered twice, each value passed its checks, and the names are those of the resources
+-- no name is delivered twice, each value passed its checks, and where the kind deletes what a response lacks the names are those
+-- of the resources
 pub record IsReady (a : Answered) : Type 0 where
   pub apart : AreApart a.parts
   pub lawful : AreLawfulParts a.kind a.parts
-  pub named : AreNamesOf a.parts a.names
+  pub named : deletes a.kind ≡ true → AreNamesOf a.parts a.names

@@ -19,7 +19,7 @@ use Rattle.call_journal.specs.declared.entry.Entry.{Entry}
 use Rattle.xds_history.specs.Words.{same_kind, lives_at}
 use Rattle.xds_history.specs.Setting.{Setting}
 use Rattle.xds_history.specs.Streams.{is_up}
-use Rattle.resource_check.specs.declared.delivery.Delivery.{Delivery}
+use Rattle.xds_history.specs.resource_check.declared.delivery.Delivery.{Delivery}
 use Rattle.xds_history.specs.declared.responses.Told.{Told}
 use Rattle.xds_history.specs.Responses.{Came, answered, delivers, is_named}
 use Rattle.xds_history.specs.declared.page.Page.{Page}

@@ -5,7 +5,7 @@ use Rattle.std.specs.Ordering.{nat_cmp}
 use Rattle.std.specs.Cmp.Lexicographic.{slice_cmp}
 use Rattle.std.specs.BTreeSet.{BTreeSet, contains}
 use Rattle.config_assembly.specs.Orders.{Name}
-use Rattle.resource_check.specs.declared.delivery.Delivery.{Delivery}
+use Rattle.xds_history.specs.resource_check.declared.delivery.Delivery.{Delivery}
 use Rattle.xds_history.specs.Responses.{is_named}
 use Rattle.book_fates.specs.declared.part_names.PartNames.{PartNames}
 

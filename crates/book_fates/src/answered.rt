@@ -1,7 +1,7 @@
 //! The resources of an answered response, as they are taken in.
 use crate::part_names::PartNames;
-use resource_check::Delivery;
 use xc_base::{Authority, Kind, List};
+use xds_history::Delivery;
 
 /// What of an answered response is taken in.
 #[derive(Drop)]
@@ -12,6 +12,6 @@ pub struct Answered {
     pub kind: Kind,
     /// The resources in their order.
     pub parts: List<Delivery>,
-    /// Their names.
+    /// Their names, where the kind deletes what a response lacks.
     pub names: PartNames,
 }

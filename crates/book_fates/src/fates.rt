@@ -1,5 +1,5 @@
 //! What an answered response, and time, make of what is known of watched keys.
-ghost use Rattle.std.specs.Prelude.{◌≡◌, ◌++◌, ◌∷◌, [], List, Some, IsOk, OnOk, IfOk, filter, if◌then◌else◌, length, option_map};
+ghost use Rattle.std.specs.Prelude.{◌≡◌, ◌++◌, ◌∷◌, [], List, Some, IsOk, OnOk, IfOk, filter, if◌then◌else◌, length, option_map, true};
 ghost use Rattle.xc_base.specs.declared.names.Key.{Key as KeyValue};
 ghost use Rattle.xds_cache.specs.KeptFates.{known_of, shown};
 ghost use Rattle.xds_history.specs.Fates.{deletes, has_value, lacks};
@@ -17,11 +17,11 @@ ghost use Rattle.book_fates.specs.FateSteps.{AreLawfulParts, IsLawfulOf, Stepped
 use crate::answered::Answered;
 use crate::part_names::lacks;
 use crate::part_tests::{deletes, lives_at, same_kind};
-use resource_check::Delivery;
 use std::alloc::Global;
 use std::sync::ledger::Ledger;
 use xc_base::{Authority, Home, Key, Kind, List, Memory, Steps};
 use xds_cache::{Cache, Fate};
+use xds_history::Delivery;
 
 // ---- parts
 
@@ -88,7 +88,7 @@ fn lacks_key(response: &Answered, key: &Key) -> bool
 
 /// Whether a response lets go a key that has this fate.
 fn is_let_go(response: &Answered, key: &Key, fate: Fate<'_>) -> bool
-    requires { AreNamesOf response.now.parts response.now.names }
+    requires { deletes response.now.kind ≡ true → AreNamesOf response.now.parts response.now.names }
     ensures { result ≡ is_let_go (told_as (delivered_in response.now)) key.now (shown fate.entry) }
 {
     deletes(response.kind)
@@ -105,7 +105,7 @@ fn let_each_go<L: Ledger>(
     keys: &[Key],
     steps: &mut Steps<L>,
 )
-    requires { AreNamesOf response.now.parts response.now.names }
+    requires { deletes response.now.kind ≡ true → AreNamesOf response.now.parts response.now.names }
     ensures { Stepped cache.old cache.new (gone_among (told_as (delivered_in response.now)) keys.now) }
 {
     for key in keys {
@@ -117,7 +117,7 @@ fn let_each_go<L: Ledger>(
 
 /// Lets go those of the keys that the response lacks. Where its kind deletes none it looks at no key. It takes no memory.
 fn let_go<L: Ledger>(cache: &mut Cache, response: &Answered, keys: &[Key], steps: &mut Steps<L>)
-    requires { AreNamesOf response.now.parts response.now.names }
+    requires { deletes response.now.kind ≡ true → AreNamesOf response.now.parts response.now.names }
     ensures { Stepped cache.old cache.new (gone_among (told_as (delivered_in response.now)) keys.now) }
 {
     if deletes(response.kind) {

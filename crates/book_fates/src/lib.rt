@@ -15,3 +15,4 @@ pub mod timing;
 pub use answered::Answered;
 pub use part_names::PartNames;
 pub use timed_fates::Fates;
+pub use xds_history::{Delivery, Prepared, Reading};

@@ -1,16 +1,17 @@
 //! The names of a response's resources, to be looked up.
-ghost use Rattle.std.specs.Prelude.{◌≡◌, ◌&&◌, ◌||◌, IfOk, OnOk, is_some, not};
+ghost use Rattle.std.specs.Prelude.{◌≡◌, ◌&&◌, ◌||◌, IfOk, OnOk, is_some, not, true};
 ghost use Rattle.std.specs.Str.{bytes_eq};
 ghost use Rattle.config_assembly.specs.Orders.{Name};
 ghost use Rattle.xds_history.specs.Responses.{is_named};
-ghost use Rattle.xds_history.specs.Fates.{lacks};
+ghost use Rattle.xds_history.specs.Fates.{deletes, lacks};
 ghost use Rattle.xds_history.specs.declared.responses.Told.{Told as ToldValue};
 ghost use Rattle.book_fates.specs.NamedParts.{AreNamesOf, has_name};
 
-use resource_check::Delivery;
+use crate::part_tests::deletes;
 use std::alloc::Global;
 use std::collections::BTreeSet;
-use xc_base::{Key, Memory, Text};
+use xc_base::{Key, Kind, Memory, Text};
+use xds_history::Delivery;
 
 /// The names of a response's resources, so that a key is looked up among them and not compared with each.
 #[derive(Drop)]
@@ -54,6 +55,17 @@ impl PartNames {
             add_part(&mut names, part)?;
         }
         Ok(names)
+    }
+
+    /// What a response of this kind with these resources asks for: their names, where its kind deletes what it lacks, and else
+    /// none. It fails for want of memory alone.
+    pub fn asked(alloc: Global, kind: Kind, parts: &[Delivery]) -> Result<PartNames, Memory>
+        ensures { IfOk result (λ names. deletes kind ≡ true → AreNamesOf parts.now names) }
+    {
+        if deletes(kind) {
+            return PartNames::of(alloc, parts);
+        }
+        PartNames::of(alloc, &[])
     }
 }
 

@@ -4,16 +4,16 @@ use Rattle.std.specs.Prelude.{if◌then◌else◌}
 use Rattle.std.specs.List.{list_all}
 use Rattle.xc_base.specs.declared.names.Kind.{Kind}
 use Rattle.xc_base.specs.declared.names.Authority.{Authority}
-use Rattle.resource_check.specs.declared.delivery.Delivery.{Delivery}
+use Rattle.book_fates.specs.resource_check.declared.delivery.Delivery.{Delivery}
 use Rattle.ads_stream.specs.declared.stream.StreamState.{StreamState}
 use Rattle.ads_stream.specs.declared.verdict.Verdict.{Verdict}
 use Rattle.call_journal.specs.declared.event.DriverEvent.{DriverEvent}
 use Rattle.call_journal.specs.declared.entry.Entry.{Entry}
-use Rattle.config_assembly.specs.Orders.{Name}
-use Rattle.xds_history.specs.Setting.{Setting}
-use Rattle.xds_history.specs.Streams.{stream, asked}
-use Rattle.xds_history.specs.declared.responses.Told.{Told}
-use Rattle.xds_history.specs.Responses as history
+use Rattle.book_fates.specs.config_assembly.Orders.{Name}
+use Rattle.book_fates.specs.xds_history.Setting.{Setting}
+use Rattle.book_fates.specs.xds_history.Streams.{stream, asked}
+use Rattle.book_fates.specs.xds_history.declared.responses.Told.{Told}
+use Rattle.book_fates.specs.xds_history.Responses as history
 use Rattle.book_fates.specs.declared.part_names.PartNames.{PartNames}
 use Rattle.book_fates.specs.Delivered.{Delivered, delivered_by}
 use Rattle.book_streams.specs.StreamsKept.{states_with}

@@ -6,11 +6,11 @@ use Rattle.xc_base.specs.declared.names.Authority.{Authority}
 use Rattle.proto_discovery.specs.declared.response.Response.{Response}
 use Rattle.proto_discovery.specs.Response.{response_of}
 use Rattle.proto_discovery.specs.TypeUrls.{kind_of}
-use Rattle.resource_check.specs.declared.delivery.Delivery.{Delivery}
-use Rattle.resource_check.specs.declared.delivery.Prepared.{Prepared}
-use Rattle.resource_check.specs.declared.delivery.Reading.TheVariants.{Read}
-use Rattle.resource_check.specs.Deliveries.{AreLawfulIn, IsLawfulReading, IsPrepared, among, parts_in, reading_with, stops_in, stops_with}
-use Rattle.config_assembly.specs.Orders.{Name}
+use Rattle.book_fates.specs.resource_check.declared.delivery.Delivery.{Delivery}
+use Rattle.book_fates.specs.resource_check.declared.delivery.Prepared.{Prepared}
+use Rattle.book_fates.specs.resource_check.declared.delivery.Reading.TheVariants.{Read}
+use Rattle.book_fates.specs.resource_check.Deliveries.{AreLawfulIn, IsLawfulReading, IsPrepared, among, parts_in, reading_with, stops_in, stops_with}
+use Rattle.book_fates.specs.config_assembly.Orders.{Name}
 use Rattle.book_fates.specs.FateSteps.{AreApart}
 use Rattle.book_fates.proofs.PartLemmas.{apart}
 use Rattle.book_hearing.specs.HeardEvents.{AreDeliverable}

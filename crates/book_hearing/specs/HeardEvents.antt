@@ -2,14 +2,14 @@
 use Rattle.std.specs.Prelude.{◌≡◌, ◌<◌, ◌^◌, ℕ, List, [], length, true, Option, Some, None, IfSome, option_map}
 use Rattle.std.specs.List.{filter_map}
 use Rattle.proto_discovery.specs.declared.response.Response.{Response}
-use Rattle.resource_check.specs.declared.delivery.Prepared.{Prepared}
-use Rattle.resource_check.specs.Deliveries.{IsPrepared, once, refused_text}
+use Rattle.book_fates.specs.resource_check.declared.delivery.Prepared.{Prepared}
+use Rattle.book_fates.specs.resource_check.Deliveries.{IsPrepared, once, refused_text}
 use Rattle.ads_stream.specs.declared.stream.StreamState.{StreamState}
 use Rattle.call_journal.specs.declared.event.DriverEvent.{DriverEvent}
 use Rattle.call_journal.specs.declared.entry.Entry.{Entry}
-use Rattle.config_assembly.specs.Orders.{Name}
-use Rattle.xds_history.specs.Setting.{Setting}
-use Rattle.xds_history.specs.Responses as history
+use Rattle.book_fates.specs.config_assembly.Orders.{Name}
+use Rattle.book_fates.specs.xds_history.Setting.{Setting}
+use Rattle.book_fates.specs.xds_history.Responses as history
 use Rattle.book_fates.specs.FateSteps.{AreApart, AreLawfulParts}
 use Rattle.book_fates.specs.Delivered.{delivered_by, delivered_in}
 use Rattle.book_fates.specs.declared.answered.Answered.{Answered}

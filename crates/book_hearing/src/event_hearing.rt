@@ -4,9 +4,9 @@ ghost use Rattle.call_journal.specs.declared.entry.Entry.{Entry as EntryValue};
 ghost use Rattle.call_journal.specs.declared.event.DriverEvent.{DriverEvent as EventValue};
 ghost use Rattle.xds_bootstrap.specs.declared.bootstrap.Bootstrap.{Bootstrap as BootstrapValue};
 ghost use Rattle.xds_name.specs.declared.target.Target.{Target as TargetValue};
-ghost use Rattle.resource_check.specs.declared.delivery.Prepared.{Prepared as PreparedValue};
-ghost use Rattle.xds_history.specs.Setting.{Setting, setting_of};
-ghost use Rattle.xds_history.specs.Responses as history;
+ghost use Rattle.book_fates.specs.resource_check.declared.delivery.Prepared.{Prepared as PreparedValue};
+ghost use Rattle.book_fates.specs.xds_history.Setting.{Setting, setting_of};
+ghost use Rattle.book_fates.specs.xds_history.Responses as history;
 ghost use Rattle.book_fates.specs.Delivered.{IsReady};
 ghost use Rattle.book_streams.specs.StreamsKept.{states_of};
 ghost use Rattle.book_streams.specs.StreamsLaws.{authority_in};
@@ -14,10 +14,9 @@ ghost use Rattle.book_hearing.specs.HeardEvents.{AreDeliverable, IsAnswerable, I
 
 use crate::judging::{Answerable, judge};
 use ads_stream::Verdict;
-use book_fates::{Answered, PartNames};
+use book_fates::{Answered, PartNames, Prepared};
 use book_streams::{Streams, error_in};
 use call_journal::DriverEvent;
-use resource_check::Prepared;
 use std::alloc::Global;
 use xc_base::{List, Memory, Text};
 
@@ -41,7 +40,7 @@ fn answer(alloc: Global, streams: &mut Streams, response: Answerable) -> Result<
     ensures texts { IfOk result (λ heard. (prepared : Option PreparedValue) → response.refused ≡ texts_of prepared → heard.refused ≡ texts_told heard.answered prepared) }
     ensures err { OnErr result (streams.new ≡ streams.old) }
 {
-    let names = PartNames::of(alloc, response.parts.as_slice())?;
+    let names = PartNames::asked(alloc, response.kind, response.parts.as_slice())?;
     let error = error_in(alloc, response.parts.as_slice())?;
     let verdict = streams.response(
         response.authority,

@@ -5,17 +5,17 @@ ghost use Rattle.call_journal.specs.declared.entry.Entry.{Entry as EntryValue};
 ghost use Rattle.call_journal.specs.declared.event.DriverEvent.{DriverEvent as EventValue};
 ghost use Rattle.xds_bootstrap.specs.declared.bootstrap.Bootstrap.{Bootstrap as BootstrapValue};
 ghost use Rattle.xds_name.specs.declared.target.Target.{Target as TargetValue};
-ghost use Rattle.resource_check.specs.Deliveries.{IsPrepared};
-ghost use Rattle.xds_history.specs.Setting.{Setting, setting_of};
-ghost use Rattle.xds_history.specs.Responses as history;
+ghost use Rattle.book_fates.specs.resource_check.Deliveries.{IsPrepared};
+ghost use Rattle.book_fates.specs.xds_history.Setting.{Setting, setting_of};
+ghost use Rattle.book_fates.specs.xds_history.Responses as history;
 ghost use Rattle.book_streams.specs.StreamsKept.{states_of};
 ghost use Rattle.book_streams.specs.StreamsLaws.{authority_in};
 ghost use Rattle.book_hearing.specs.HeardEvents.{AreDeliverable, IsAnswerable, IsPreparedFor, texts_of};
 
 use ads_stream::Verdict;
+use book_fates::{Delivery, Prepared, Reading};
 use book_streams::Streams;
 use call_journal::DriverEvent;
-use resource_check::{Delivery, Prepared, Reading};
 use xc_base::{Authority, Kind, List, Text};
 
 /// A response that can be read, of a kind that was asked for on its stream.

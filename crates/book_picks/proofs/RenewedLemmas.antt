@@ -29,15 +29,15 @@ use Rattle.call_journal.specs.declared.event.DriverEvent.{DriverEvent}
 use Rattle.call_journal.specs.declared.reply.DriverReply.{DriverReply}
 use Rattle.call_journal.specs.declared.entry.Entry.{Entry}
 use Rattle.call_journal.specs.declared.entry.What.{What}
-use Rattle.config_assembly.specs.Orders.{Name, name_cmp}
-use Rattle.xds_history.specs.declared.page.ClusterTrees.{ClusterTrees}
-use Rattle.xds_history.specs.declared.page.Page.{Page}
-use Rattle.xds_history.specs.Page.{config_now, trees_now}
-use Rattle.xds_history.specs.Setting.{Setting}
-use Rattle.xds_history.specs.Trees.{Present}
-use Rattle.xds_history.specs.Pages.{caller_page, page_of, pages, present_after, snapshot_of}
-use Rattle.xds_history.specs.Pickers.{cluster_view, views}
-use Rattle.xds_history.specs.Picks.{same_place, taken_by, turn}
+use Rattle.book_trees.specs.config_assembly.Orders.{Name, name_cmp}
+use Rattle.book_trees.specs.xds_history.declared.page.ClusterTrees.{ClusterTrees}
+use Rattle.book_trees.specs.xds_history.declared.page.Page.{Page}
+use Rattle.book_trees.specs.xds_history.Page.{config_now, trees_now}
+use Rattle.book_trees.specs.xds_history.Setting.{Setting}
+use Rattle.book_trees.specs.xds_history.Trees.{Present}
+use Rattle.book_trees.specs.xds_history.Pages.{caller_page, page_of, pages, present_after, snapshot_of}
+use Rattle.book_trees.specs.xds_history.Pickers.{cluster_view, views}
+use Rattle.book_trees.specs.xds_history.Picks.{same_place, taken_by, turn}
 use Rattle.book_trees.specs.TreesKept.{clusters_of}
 use Rattle.book_picks.specs.declared.place_counts.PlaceKey.{PlaceKey}
 use Rattle.book_picks.specs.declared.place_counts.PlaceCounts.{PlaceCounts}

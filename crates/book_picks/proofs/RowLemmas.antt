@@ -12,14 +12,14 @@ use Rattle.xds_config.specs.Configs.{cluster_place}
 use Rattle.tree_steps.specs.declared.tree_view.TreeView.{TreeView}
 use Rattle.cluster_tree.specs.declared.snapshot.Snapshot.{Snapshot}
 use Rattle.call_journal.specs.declared.reply.CallerReply.{CallerReply}
-use Rattle.config_assembly.specs.Orders.{Name}
-use Rattle.xds_history.specs.declared.page.Page.{Page}
-use Rattle.xds_history.specs.declared.page.ClusterTrees.{ClusterTrees}
-use Rattle.xds_history.specs.Page.{config_now, trees_now}
-use Rattle.xds_history.specs.Trees.{Present}
-use Rattle.xds_history.specs.Pickers.{cluster_view, views}
-use Rattle.xds_history.specs.Right.{standing, shown}
-use Rattle.xds_history.specs.Picks.{held_reply, place_in, view_in, view_reply}
+use Rattle.book_trees.specs.config_assembly.Orders.{Name}
+use Rattle.book_trees.specs.xds_history.declared.page.Page.{Page}
+use Rattle.book_trees.specs.xds_history.declared.page.ClusterTrees.{ClusterTrees}
+use Rattle.book_trees.specs.xds_history.Page.{config_now, trees_now}
+use Rattle.book_trees.specs.xds_history.Trees.{Present}
+use Rattle.book_trees.specs.xds_history.Pickers.{cluster_view, views}
+use Rattle.book_trees.specs.xds_history.Right.{standing, shown}
+use Rattle.book_trees.specs.xds_history.Picks.{held_reply, place_in, view_in, view_reply}
 use Rattle.book_picks.specs.declared.cluster_rows.Row.{Row}
 use Rattle.book_picks.specs.declared.kept_turns.Turns.{Turns}
 use Rattle.book_picks.specs.CountedPlaces.{IsRaised, index_of}

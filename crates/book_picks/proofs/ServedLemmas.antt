@@ -11,13 +11,13 @@ use Rattle.priority_lb.specs.declared.facts.ChildFacts.{ChildFacts}
 use Rattle.priority_lb.specs.ChildHistories as children
 use Rattle.graceful_switch.specs.Takeover.{Pair}
 use Rattle.tree_steps.specs.declared.tree_view.TreeView.{TreeView}
-use Rattle.config_assembly.specs.Orders.{Name}
-use Rattle.xds_history.specs.declared.page.Tree.{Tree}
-use Rattle.xds_history.specs.declared.page.ClusterTrees.{ClusterTrees}
-use Rattle.xds_history.specs.declared.page.Page.{Page}
-use Rattle.xds_history.specs.Trees.{children_now, chosen_place, trees_of}
-use Rattle.xds_history.specs.Pickers.{child_localities, cluster_view, tree_view, view_with}
-use Rattle.xds_history.specs.Picks.{Place, place_at, place_in, place_in_child, turn, turn_at}
+use Rattle.book_trees.specs.config_assembly.Orders.{Name}
+use Rattle.book_trees.specs.xds_history.declared.page.Tree.{Tree}
+use Rattle.book_trees.specs.xds_history.declared.page.ClusterTrees.{ClusterTrees}
+use Rattle.book_trees.specs.xds_history.declared.page.Page.{Page}
+use Rattle.book_trees.specs.xds_history.Trees.{children_now, chosen_place, trees_of}
+use Rattle.book_trees.specs.xds_history.Pickers.{child_localities, cluster_view, tree_view, view_with}
+use Rattle.book_trees.specs.xds_history.Picks.{Place, place_at, place_in, place_in_child, turn, turn_at}
 use Rattle.book_picks.specs.declared.place_counts.PlaceCounts.{PlaceCounts}
 use Rattle.book_picks.specs.CountedPlaces.{count_at, count_of, index_of}
 use Rattle.book_picks.specs.ClusterRows.{AreIndexesOf}

@@ -10,16 +10,16 @@ use Rattle.call_journal.specs.declared.event.DriverEvent.{DriverEvent}
 use Rattle.call_journal.specs.declared.reply.DriverReply.{DriverReply}
 use Rattle.call_journal.specs.declared.entry.What.{What}
 use Rattle.call_journal.specs.declared.entry.Entry.{Entry}
-use Rattle.config_assembly.specs.Orders.{Name}
-use Rattle.xds_history.specs.Setting.{Setting, setting_of}
-use Rattle.xds_history.specs.declared.page.ClusterTrees.{ClusterTrees}
-use Rattle.xds_history.specs.declared.page.Page.{Page}
-use Rattle.xds_history.specs.Clock.{state}
-use Rattle.xds_history.specs.Page.{config_now, latest, trees_now}
-use Rattle.xds_history.specs.Pages.{page_of, pages, present_after}
-use Rattle.xds_history.specs.Trees.{trees_after}
-use Rattle.xds_history.specs.Pickers.{cluster_view, views}
-use Rattle.xds_history.specs.Right.{IsNumber, IsReply, shown, standing}
+use Rattle.book_trees.specs.config_assembly.Orders.{Name}
+use Rattle.book_trees.specs.xds_history.Setting.{Setting, setting_of}
+use Rattle.book_trees.specs.xds_history.declared.page.ClusterTrees.{ClusterTrees}
+use Rattle.book_trees.specs.xds_history.declared.page.Page.{Page}
+use Rattle.book_trees.specs.xds_history.Clock.{state}
+use Rattle.book_trees.specs.xds_history.Page.{config_now, latest, trees_now}
+use Rattle.book_trees.specs.xds_history.Pages.{page_of, pages, present_after}
+use Rattle.book_trees.specs.xds_history.Trees.{trees_after}
+use Rattle.book_trees.specs.xds_history.Pickers.{cluster_view, views}
+use Rattle.book_trees.specs.xds_history.Right.{IsNumber, IsReply, shown, standing}
 use Rattle.book_trees.specs.declared.reported_trees.ReportedTrees.{ReportedTrees}
 use Rattle.book_trees.specs.TreesKept.{AreTreesAt, StayInPlace, StaysInPlace, cluster_names, present, clusters_of}
 use Rattle.book_trees.specs.ReportedLaws.{stands_now}

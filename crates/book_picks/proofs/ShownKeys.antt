@@ -12,12 +12,12 @@ use Rattle.priority_lb.specs.declared.facts.ChildFacts.{ChildFacts}
 use Rattle.priority_lb.specs.ChildHistories as children
 use Rattle.graceful_switch.specs.Takeover.{Pair}
 use Rattle.tree_steps.specs.declared.tree_view.TreeView.{TreeView}
-use Rattle.config_assembly.specs.Orders.{Name}
-use Rattle.xds_history.specs.declared.page.Tree.{Tree}
-use Rattle.xds_history.specs.declared.page.ClusterTrees.{ClusterTrees}
-use Rattle.xds_history.specs.Trees.{children_now, chosen_child, chosen_place, trees_of}
-use Rattle.xds_history.specs.Pickers.{child_localities, cluster_view, named_child, view_with}
-use Rattle.xds_history.specs.Picks.{place_at}
+use Rattle.book_trees.specs.config_assembly.Orders.{Name}
+use Rattle.book_trees.specs.xds_history.declared.page.Tree.{Tree}
+use Rattle.book_trees.specs.xds_history.declared.page.ClusterTrees.{ClusterTrees}
+use Rattle.book_trees.specs.xds_history.Trees.{children_now, chosen_child, chosen_place, trees_of}
+use Rattle.book_trees.specs.xds_history.Pickers.{child_localities, cluster_view, named_child, view_with}
+use Rattle.book_trees.specs.xds_history.Picks.{place_at}
 use Rattle.book_picks.specs.ClusterRows.{key_in, keys_of}
 use Rattle.book_picks.specs.ChosenPlaces.{key_of, localities_of_tree, localities_served, places_of_child, places_of_tree, served}
 use Rattle.book_picks.specs.RenewedRows.{StaysServed, child_seen}

@@ -13,14 +13,14 @@ use Rattle.call_journal.specs.declared.event.CallerEvent.{CallerEvent}
 use Rattle.call_journal.specs.declared.reply.CallerReply.{CallerReply}
 use Rattle.call_journal.specs.declared.entry.What.{What}
 use Rattle.call_journal.specs.declared.entry.Entry.{Entry}
-use Rattle.config_assembly.specs.Orders.{Name, name_cmp}
-use Rattle.xds_history.specs.Setting.{Setting}
-use Rattle.xds_history.specs.declared.page.ClusterTrees.{ClusterTrees}
-use Rattle.xds_history.specs.declared.page.Page.{Page}
-use Rattle.xds_history.specs.Page.{config_now, trees_now}
-use Rattle.xds_history.specs.Pages.{caller_page, page_of, pages}
-use Rattle.xds_history.specs.References.{held}
-use Rattle.xds_history.specs.Picks.{Place, place_in, same_locality, same_place, taken_by, turn}
+use Rattle.book_trees.specs.config_assembly.Orders.{Name, name_cmp}
+use Rattle.book_trees.specs.xds_history.Setting.{Setting}
+use Rattle.book_trees.specs.xds_history.declared.page.ClusterTrees.{ClusterTrees}
+use Rattle.book_trees.specs.xds_history.declared.page.Page.{Page}
+use Rattle.book_trees.specs.xds_history.Page.{config_now, trees_now}
+use Rattle.book_trees.specs.xds_history.Pages.{caller_page, page_of, pages}
+use Rattle.book_trees.specs.xds_history.References.{held}
+use Rattle.book_trees.specs.xds_history.Picks.{Place, place_in, same_locality, same_place, taken_by, turn}
 use Rattle.book_picks.specs.declared.place_counts.PlaceKey.{PlaceKey}
 use Rattle.book_picks.specs.declared.place_counts.PlaceCounts.{PlaceCounts}
 use Rattle.book_picks.specs.declared.kept_turns.Turns.{Turns}

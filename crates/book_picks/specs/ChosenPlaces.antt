@@ -6,12 +6,12 @@ use Rattle.xds_config.specs.declared.endpoint_values.Locality.{Locality}
 use Rattle.xds_config.specs.declared.config.Leaves.{Leaves}
 use Rattle.xds_config.specs.declared.config.ClusterEntry.{ClusterEntry}
 use Rattle.priority_lb.specs.ChildHistories as children
-use Rattle.config_assembly.specs.Orders.{Name}
-use Rattle.xds_history.specs.declared.page.Tree.{Tree}
-use Rattle.xds_history.specs.declared.page.ClusterTrees.{ClusterTrees}
-use Rattle.xds_history.specs.Trees.{chosen_child, trees_of}
-use Rattle.xds_history.specs.Pickers.{child_localities}
-use Rattle.xds_history.specs.Picks.{Place, place_at}
+use Rattle.book_trees.specs.config_assembly.Orders.{Name}
+use Rattle.book_trees.specs.xds_history.declared.page.Tree.{Tree}
+use Rattle.book_trees.specs.xds_history.declared.page.ClusterTrees.{ClusterTrees}
+use Rattle.book_trees.specs.xds_history.Trees.{chosen_child, trees_of}
+use Rattle.book_trees.specs.xds_history.Pickers.{child_localities}
+use Rattle.book_trees.specs.xds_history.Picks.{Place, place_at}
 use Rattle.book_picks.specs.declared.place_counts.PlaceKey.{PlaceKey}
 
 abbrev pub key_of : Place → PlaceKey

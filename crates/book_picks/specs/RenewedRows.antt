@@ -15,13 +15,13 @@ use Rattle.call_journal.specs.declared.event.DriverEvent.{DriverEvent}
 use Rattle.call_journal.specs.declared.reply.DriverReply.{DriverReply}
 use Rattle.call_journal.specs.declared.entry.What.{What}
 use Rattle.call_journal.specs.declared.entry.Entry.{Entry}
-use Rattle.config_assembly.specs.Orders.{Name}
-use Rattle.xds_history.specs.Setting.{Setting}
-use Rattle.xds_history.specs.declared.page.ClusterTrees.{ClusterTrees}
-use Rattle.xds_history.specs.declared.page.Page.{Page}
-use Rattle.xds_history.specs.Page.{config_now, trees_now}
-use Rattle.xds_history.specs.Pages.{page_of, pages}
-use Rattle.xds_history.specs.Pickers.{cluster_view}
+use Rattle.book_trees.specs.config_assembly.Orders.{Name}
+use Rattle.book_trees.specs.xds_history.Setting.{Setting}
+use Rattle.book_trees.specs.xds_history.declared.page.ClusterTrees.{ClusterTrees}
+use Rattle.book_trees.specs.xds_history.declared.page.Page.{Page}
+use Rattle.book_trees.specs.xds_history.Page.{config_now, trees_now}
+use Rattle.book_trees.specs.xds_history.Pages.{page_of, pages}
+use Rattle.book_trees.specs.xds_history.Pickers.{cluster_view}
 use Rattle.book_trees.specs.TreesKept.{cluster_names, clusters_of}
 use Rattle.book_picks.specs.declared.place_counts.PlaceKey.{PlaceKey}
 use Rattle.book_picks.specs.declared.kept_turns.Turns.{Turns}

@@ -8,11 +8,11 @@ use Rattle.call_journal.specs.declared.event.DriverEvent.{DriverEvent}
 use Rattle.call_journal.specs.declared.reply.DriverReply.{DriverReply}
 use Rattle.call_journal.specs.declared.entry.What.{What}
 use Rattle.call_journal.specs.declared.entry.Entry.{Entry}
-use Rattle.xds_history.specs.Setting.{Setting, setting_of}
-use Rattle.xds_history.specs.declared.page.Page.{Page}
-use Rattle.xds_history.specs.Page.{config_now, trees_now}
-use Rattle.xds_history.specs.Pages.{pages}
-use Rattle.xds_history.specs.Right.{Right}
+use Rattle.book_trees.specs.xds_history.Setting.{Setting, setting_of}
+use Rattle.book_trees.specs.xds_history.declared.page.Page.{Page}
+use Rattle.book_trees.specs.xds_history.Page.{config_now, trees_now}
+use Rattle.book_trees.specs.xds_history.Pages.{pages}
+use Rattle.book_trees.specs.xds_history.Right.{Right}
 use Rattle.book_trees.specs.declared.reported_trees.ReportedTrees.{ReportedTrees}
 use Rattle.book_trees.specs.TreesKept.{AreTreesAt, StayInPlace, cluster_names}
 use Rattle.book_picks.specs.declared.kept_turns.Turns.{Turns}

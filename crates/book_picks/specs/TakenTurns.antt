@@ -2,12 +2,12 @@
 use Rattle.std.specs.Prelude.{◌≡◌, ℕ, List, Option, Some, None, option_map, slice_get}
 use Rattle.cluster_tree.specs.declared.snapshot.Snapshot.{Snapshot}
 use Rattle.call_journal.specs.declared.reply.CallerReply.{CallerReply}
-use Rattle.config_assembly.specs.Orders.{Name}
-use Rattle.xds_history.specs.declared.page.Page.{Page}
-use Rattle.xds_history.specs.Page.{config_now, trees_now}
-use Rattle.xds_history.specs.Trees.{Present}
-use Rattle.xds_history.specs.Right.{standing, shown}
-use Rattle.xds_history.specs.Picks.{Place, place_in, turn_at}
+use Rattle.book_trees.specs.config_assembly.Orders.{Name}
+use Rattle.book_trees.specs.xds_history.declared.page.Page.{Page}
+use Rattle.book_trees.specs.xds_history.Page.{config_now, trees_now}
+use Rattle.book_trees.specs.xds_history.Trees.{Present}
+use Rattle.book_trees.specs.xds_history.Right.{standing, shown}
+use Rattle.book_trees.specs.xds_history.Picks.{Place, place_in, turn_at}
 use Rattle.book_picks.specs.declared.place_counts.PlaceCounts.{PlaceCounts}
 use Rattle.book_picks.specs.declared.cluster_rows.Row.{Row}
 use Rattle.book_picks.specs.declared.kept_turns.Turns.{Turns}

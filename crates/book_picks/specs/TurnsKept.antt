@@ -5,14 +5,14 @@ use Rattle.std.specs.Map.{lookup}
 use Rattle.xc_base.specs.declared.names.CallId.{CallId}
 use Rattle.xds_config.specs.declared.config.ClusterEntry.{ClusterEntry}
 use Rattle.cluster_tree.specs.declared.snapshot.Snapshot.{Snapshot}
-use Rattle.config_assembly.specs.Orders.{Name, name_cmp}
-use Rattle.xds_history.specs.declared.page.ClusterTrees.{ClusterTrees}
-use Rattle.xds_history.specs.declared.page.Page.{Page}
-use Rattle.xds_history.specs.Page.{config_now, trees_now, latest}
-use Rattle.xds_history.specs.References.{held}
-use Rattle.xds_history.specs.Trees.{Present}
-use Rattle.xds_history.specs.Right.{standing, shown}
-use Rattle.xds_history.specs.Picks.{Place, turn}
+use Rattle.book_trees.specs.config_assembly.Orders.{Name, name_cmp}
+use Rattle.book_trees.specs.xds_history.declared.page.ClusterTrees.{ClusterTrees}
+use Rattle.book_trees.specs.xds_history.declared.page.Page.{Page}
+use Rattle.book_trees.specs.xds_history.Page.{config_now, trees_now, latest}
+use Rattle.book_trees.specs.xds_history.References.{held}
+use Rattle.book_trees.specs.xds_history.Trees.{Present}
+use Rattle.book_trees.specs.xds_history.Right.{standing, shown}
+use Rattle.book_trees.specs.xds_history.Picks.{Place, turn}
 use Rattle.book_trees.specs.TreesKept.{clusters_of}
 use Rattle.book_picks.specs.declared.place_counts.PlaceKey.{PlaceKey}
 use Rattle.book_picks.specs.declared.cluster_rows.Row.{Row}

@@ -7,9 +7,9 @@ use Rattle.call_journal.specs.declared.reply.DriverReply.{DriverReply}
 use Rattle.call_journal.specs.declared.reply.CallerReply.{CallerReply}
 use Rattle.call_journal.specs.declared.entry.What.{What}
 use Rattle.call_journal.specs.declared.entry.Entry.{Entry}
-use Rattle.xds_history.specs.Setting.{Setting}
-use Rattle.xds_history.specs.Page.{config_now, trees_now}
-use Rattle.xds_history.specs.Pages.{pages}
+use Rattle.book_trees.specs.xds_history.Setting.{Setting}
+use Rattle.book_trees.specs.xds_history.Page.{config_now, trees_now}
+use Rattle.book_trees.specs.xds_history.Pages.{pages}
 use Rattle.book_picks.specs.declared.kept_turns.Turns.{Turns}
 use Rattle.book_trees.specs.TreesKept.{clusters_of}
 use Rattle.book_picks.specs.TurnsKept.{AreTurnsAt}

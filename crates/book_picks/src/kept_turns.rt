@@ -5,10 +5,10 @@ ghost use Rattle.cluster_tree.specs.ViewChanges.{ArePickable};
 ghost use Rattle.call_journal.specs.declared.event.CallerEvent.{CallerEvent};
 ghost use Rattle.call_journal.specs.declared.entry.What.{What};
 ghost use Rattle.call_journal.specs.declared.entry.Entry.{Entry as EntryValue};
-ghost use Rattle.xds_history.specs.Setting.{Setting};
-ghost use Rattle.xds_history.specs.declared.page.Page.{Page as PageValue};
-ghost use Rattle.xds_history.specs.Pages.{pages};
-ghost use Rattle.xds_history.specs.Picks.{held_reply, pick_reply};
+ghost use Rattle.book_trees.specs.xds_history.Setting.{Setting};
+ghost use Rattle.book_trees.specs.xds_history.declared.page.Page.{Page as PageValue};
+ghost use Rattle.book_trees.specs.xds_history.Pages.{pages};
+ghost use Rattle.book_trees.specs.xds_history.Picks.{held_reply, pick_reply};
 ghost use Rattle.book_picks.specs.TakenTurns.{IsShownAt, TakesTurn};
 ghost use Rattle.book_picks.specs.TurnsKept.{AreTurnsAt, IsPickAt};
 

@@ -1,9 +1,9 @@
 //! A pick in the view of a cluster.
 ghost use Rattle.std.specs.Prelude.{◌≡◌, ◌%◌, ℕ, List, length, slice_get, option_copied, Ok, IfSome};
 ghost use Rattle.weighted_lb.specs.Pick.{HasEndpoints, HaveEndpoints, IsPickable};
-ghost use Rattle.config_assembly.specs.Orders.{Name};
-ghost use Rattle.xds_history.specs.declared.page.Page.{Page as PageValue};
-ghost use Rattle.xds_history.specs.Picks.{fail_of, part_at, view_reply};
+ghost use Rattle.book_trees.specs.config_assembly.Orders.{Name};
+ghost use Rattle.book_trees.specs.xds_history.declared.page.Page.{Page as PageValue};
+ghost use Rattle.book_trees.specs.xds_history.Picks.{fail_of, part_at, view_reply};
 ghost use Rattle.book_picks.specs.CountedPlaces.{IsRaised, count_at};
 ghost use Rattle.book_picks.specs.TakenTurns.{IsOfChild, TurnsFor, index_taken};
 

@@ -2,11 +2,11 @@
 ghost use Rattle.std.specs.Prelude.{◌≡◌, ◌≢◌, ◌<◌, ◌^◌, ◌∷◌, ℕ, List, Some, false, length, get_or, slice_get, option_copied, OnOk};
 ghost use Rattle.xds_config.specs.Configs.{IsLawfulConfig};
 ghost use Rattle.cluster_tree.specs.ViewChanges.{localities_at};
-ghost use Rattle.config_assembly.specs.Orders.{Name};
+ghost use Rattle.book_trees.specs.config_assembly.Orders.{Name};
 ghost use Rattle.call_journal.specs.declared.entry.Entry.{Entry as EntryValue};
-ghost use Rattle.xds_history.specs.Setting.{Setting};
-ghost use Rattle.xds_history.specs.Page.{trees_now};
-ghost use Rattle.xds_history.specs.Pages.{pages};
+ghost use Rattle.book_trees.specs.xds_history.Setting.{Setting};
+ghost use Rattle.book_trees.specs.xds_history.Page.{trees_now};
+ghost use Rattle.book_trees.specs.xds_history.Pages.{pages};
 ghost use Rattle.book_picks.specs.CountedPlaces.{Extends};
 ghost use Rattle.book_picks.specs.ClusterRows.{keys_of};
 ghost use Rattle.book_picks.specs.TurnsKept.{AreTurnsAt, HasRow, row_named};

@@ -17,7 +17,7 @@ use Rattle.xds_history.specs.Setting.{Setting}
 use Rattle.xds_history.specs.declared.turns.Turn.{Turn}
 use Rattle.xds_history.specs.declared.turns.Turn.TheVariants.{Opens, Ends, Stays}
 use Rattle.xds_history.specs.Streams.{turn_by, turn_if, before_turn, stream, asked, is_unreadable}
-use Rattle.resource_check.specs.declared.delivery.Delivery.{Delivery}
+use Rattle.xds_history.specs.resource_check.declared.delivery.Delivery.{Delivery}
 use Rattle.xds_history.specs.declared.responses.Told.{Told}
 use Rattle.xds_history.specs.Responses.{Came, answered, accepted, answered_kind, accepted_kind, told_in, told_by, told_of, version, nonce_on, verdict, verdict_on_parts, verdict_on_kind, verdict_on_reading, is_asked, parts}
 use Rattle.xds_history.specs.Requests.{error_text, is_nack}

@@ -4,7 +4,7 @@ use Rattle.xc_base.specs.declared.reason.Reason.{Reason}
 use Rattle.xc_base.specs.Reasons.{reason_word}
 use Rattle.xds_config.specs.declared.value.Value.{Value}
 use Rattle.config_assembly.specs.Orders.{Name}
-use Rattle.resource_check.specs.declared.delivery.Delivery.{Delivery}
+use Rattle.xds_history.specs.resource_check.declared.delivery.Delivery.{Delivery}
 use Rattle.xds_history.specs.Requests.{name_text}
 
 -- what stands before a refusal, where others were before it

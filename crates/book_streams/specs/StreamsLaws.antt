@@ -20,7 +20,7 @@ use Rattle.xds_history.specs.declared.turns.Turn.{Turn}
 use Rattle.xds_history.specs.declared.turns.Turn.TheVariants.{Opens, Ends, Stays}
 use Rattle.xds_history.specs.Responses.{Came, answered, told_of, is_asked, verdict, parts}
 use Rattle.xds_history.specs.Requests.{error_text, requests, requests_on, requests_to, same_names, sent_to, watched_names}
-use Rattle.resource_check.specs.declared.delivery.Delivery.{Delivery}
+use Rattle.xds_history.specs.resource_check.declared.delivery.Delivery.{Delivery}
 use Rattle.proto_discovery.specs.declared.response.Response.{Response}
 use Rattle.xds_history.specs.declared.page.Watched.{Watched}
 use Rattle.xds_history.specs.Pages.{came}

@@ -6,9 +6,9 @@ ghost use Rattle.xds_history.specs.Requests.{name_text};
 ghost use Rattle.book_streams.specs.StreamsLaws.{error_in};
 ghost use Rattle.book_streams.specs.RefusalText.{behind, is_refused, part_text};
 
-use resource_check::Delivery;
 use std::alloc::Global;
 use xc_base::{Memory, Reason, Text};
+use xds_history::Delivery;
 
 /// Adds the name of a resource, or its place where it has none.
 fn push_name(

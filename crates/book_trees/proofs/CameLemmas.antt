@@ -9,9 +9,9 @@ use Rattle.xc_base.specs.declared.names.State.{State}
 use Rattle.xc_base.specs.declared.names.State.TheVariants.{Connecting}
 use Rattle.call_journal.specs.declared.event.DriverEvent.{DriverEvent}
 use Rattle.call_journal.specs.declared.entry.Entry.{Entry}
-use Rattle.tree_steps.specs.Reports.{Reports, state_in}
+use Rattle.xds_history.specs.tree_steps.Reports.{Reports, state_in}
 use Rattle.cluster_tree.proofs.ReportLemmas.{differ_at}
-use Rattle.config_assembly.specs.Orders.{Name}
+use Rattle.xds_history.specs.config_assembly.Orders.{Name}
 use Rattle.xds_history.specs.declared.page.Page.{Page}
 use Rattle.xds_history.specs.Clock.{reported, state}
 use Rattle.book_trees.specs.declared.reported_trees.ReportedTrees.{ReportedTrees}

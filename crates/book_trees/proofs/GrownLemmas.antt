@@ -13,15 +13,15 @@ use Rattle.xds_config.specs.declared.config.ClusterEntry.{ClusterEntry}
 use Rattle.xds_config.specs.declared.config.Config.{Config}
 use Rattle.xds_config.specs.Configs.{AreLawfulLeaves, IsLawfulConfig, IsNameBefore}
 use Rattle.graceful_switch.specs.Takeover.{Pair}
-use Rattle.tree_steps.specs.Reports.{Reports}
-use Rattle.tree_steps.specs.TreeSteps.{TreeFacts}
-use Rattle.tree_steps.specs.TreeSteps as steps
-use Rattle.tree_steps.specs.declared.tree_view.TreeView.{TreeView}
+use Rattle.xds_history.specs.tree_steps.Reports.{Reports}
+use Rattle.xds_history.specs.tree_steps.TreeSteps.{TreeFacts}
+use Rattle.xds_history.specs.tree_steps.TreeSteps as steps
+use Rattle.xds_history.specs.tree_steps.declared.tree_view.TreeView.{TreeView}
 use Rattle.cluster_tree.specs.declared.cluster_trees.Cluster.{Cluster}
 use Rattle.cluster_tree.specs.declared.cluster_trees.Standing.{Standing}
 use Rattle.cluster_tree.specs.StandingTrees.{cluster_named, standing, state_after, cluster_after, clusters_after, view_in, views_of}
 use Rattle.cluster_tree.specs.StandingTrees as kept
-use Rattle.config_assembly.specs.Orders.{Name}
+use Rattle.xds_history.specs.config_assembly.Orders.{Name}
 use Rattle.xds_history.specs.declared.page.Tree.{Tree}
 use Rattle.xds_history.specs.declared.page.ClusterTrees.{ClusterTrees}
 use Rattle.xds_history.specs.Page.{trees_in, with_trees}

@@ -9,3 +9,4 @@ pub mod DueNumberLemmas
 pub mod ServedLemmas
 pub mod StayingLemmas
 pub mod TypedLemmas
+pub use Rattle.xds_history.proofs as xds_history

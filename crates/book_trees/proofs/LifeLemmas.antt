@@ -19,11 +19,11 @@ use Rattle.priority_lb.proofs.ChildLemmas.{length_trails}
 use Rattle.priority_lb.proofs.HistoryLemmas.{one_step}
 use Rattle.priority_lb.proofs.WalkLemmas.{chosen_below}
 use Rattle.graceful_switch.specs.Takeover.{Pair, has_to_wait, settled}
-use Rattle.tree_steps.specs.Reports.{Reports, child_in, name_of, names_of, states_in}
-use Rattle.tree_steps.specs.Reports as steps
-use Rattle.tree_steps.specs.TreeSteps.{TreeFacts, begun, stepped, followed, stayed, state_of, is_same}
-use Rattle.tree_steps.specs.TreeSteps as kept
-use Rattle.tree_steps.proofs.ChildLemmas.{some_children}
+use Rattle.xds_history.specs.tree_steps.Reports.{Reports, child_in, name_of, names_of, states_in}
+use Rattle.xds_history.specs.tree_steps.Reports as steps
+use Rattle.xds_history.specs.tree_steps.TreeSteps.{TreeFacts, begun, stepped, followed, stayed, state_of, is_same}
+use Rattle.xds_history.specs.tree_steps.TreeSteps as kept
+use Rattle.xds_history.proofs.tree_steps.ChildLemmas.{some_children}
 use Rattle.xds_history.specs.declared.page.Glimpse.{Glimpse}
 use Rattle.xds_history.specs.declared.page.Tree.{Tree}
 use Rattle.xds_history.specs.Page.{update_of}

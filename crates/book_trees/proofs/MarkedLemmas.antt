@@ -9,13 +9,13 @@ use Rattle.xc_base.specs.declared.reason.Reason.{Reason}
 use Rattle.xds_config.specs.declared.config.ClusterEntry.{ClusterEntry}
 use Rattle.xds_config.specs.declared.config.Config.{Config}
 use Rattle.xds_config.specs.Configs.{IsLawfulConfig}
-use Rattle.tree_steps.specs.Reports.{Reports}
-use Rattle.tree_steps.specs.declared.tree_view.TreeView.{TreeView}
+use Rattle.xds_history.specs.tree_steps.Reports.{Reports}
+use Rattle.xds_history.specs.tree_steps.declared.tree_view.TreeView.{TreeView}
 use Rattle.cluster_tree.specs.declared.cluster_trees.Cluster.{Cluster}
 use Rattle.cluster_tree.specs.StandingTrees.{cluster_named}
 use Rattle.cluster_tree.specs.ViewChanges.{seen_of, seen_named, IsChangeMark, MarkChanges, MarkChangesInPlace}
 use Rattle.call_journal.specs.declared.entry.Entry.{Entry}
-use Rattle.config_assembly.specs.Orders.{Name}
+use Rattle.xds_history.specs.config_assembly.Orders.{Name}
 use Rattle.xds_history.specs.declared.page.ClusterTrees.{ClusterTrees}
 use Rattle.xds_history.specs.declared.page.Page.{Page}
 use Rattle.xds_history.specs.Clock.{state}

@@ -12,9 +12,9 @@ use Rattle.xds_config.specs.declared.endpoint_values.Locality.{Locality}
 use Rattle.xds_config.specs.Endpoints.{IsLawfulEndpoints}
 use Rattle.weighted_lb.specs.States.{joined}
 use Rattle.priority_lb.specs.ChildHistories as children
-use Rattle.tree_steps.specs.Reports.{Reports, Child, state_in, locality_in, at_priority, priority_in, priority_count, leaf_children, name_of, child_in, names_of, states_in}
-use Rattle.tree_steps.specs.Reports as steps
-use Rattle.config_assembly.specs.Orders.{Name}
+use Rattle.xds_history.specs.tree_steps.Reports.{Reports, Child, state_in, locality_in, at_priority, priority_in, priority_count, leaf_children, name_of, child_in, names_of, states_in}
+use Rattle.xds_history.specs.tree_steps.Reports as steps
+use Rattle.xds_history.specs.config_assembly.Orders.{Name}
 use Rattle.xds_history.specs.Page.{as_child}
 use Rattle.xds_history.specs.Trees.{localities_of, of_priority, priorities, locality_state, priority_state, child_of, children_of}
 use Rattle.book_trees.specs.TreesKept.{AreReportsOf}

@@ -29,15 +29,15 @@ use Rattle.priority_lb.specs.ChildHistories.{Name as ChildName, Trail, Update, n
 use Rattle.priority_lb.specs.ChildLaws.{all_facts, child_at}
 use Rattle.priority_lb.proofs.ChildLemmas.{length_trails, child_by_child}
 use Rattle.graceful_switch.specs.Takeover.{Pair}
-use Rattle.tree_steps.specs.declared.tree_view.NamedChild.{NamedChild}
-use Rattle.tree_steps.specs.declared.tree_view.TreeView.{TreeView}
-use Rattle.tree_steps.specs.Reports.{Reports, Child, state_in, locality_in, at_priority, priority_in, name_of, child_in, names_of, states_in}
-use Rattle.tree_steps.specs.Reports as steps
-use Rattle.tree_steps.specs.TreePickers.{part_at, parts_from, has_address, failure_of, endpoint_body, child_picker}
-use Rattle.tree_steps.specs.TreePickers as kept
-use Rattle.tree_steps.proofs.ChildLemmas.{all_children}
-use Rattle.tree_steps.specs.TreeSteps.{named_children, chosen_localities, trees_view}
-use Rattle.config_assembly.specs.Orders.{Name}
+use Rattle.xds_history.specs.tree_steps.declared.tree_view.NamedChild.{NamedChild}
+use Rattle.xds_history.specs.tree_steps.declared.tree_view.TreeView.{TreeView}
+use Rattle.xds_history.specs.tree_steps.Reports.{Reports, Child, state_in, locality_in, at_priority, priority_in, name_of, child_in, names_of, states_in}
+use Rattle.xds_history.specs.tree_steps.Reports as steps
+use Rattle.xds_history.specs.tree_steps.TreePickers.{part_at, parts_from, has_address, failure_of, endpoint_body, child_picker}
+use Rattle.xds_history.specs.tree_steps.TreePickers as kept
+use Rattle.xds_history.proofs.tree_steps.ChildLemmas.{all_children}
+use Rattle.xds_history.specs.tree_steps.TreeSteps.{named_children, chosen_localities, trees_view}
+use Rattle.xds_history.specs.config_assembly.Orders.{Name}
 use Rattle.xds_history.specs.declared.page.Glimpse.{Glimpse}
 use Rattle.xds_history.specs.declared.page.Tree.{Tree}
 use Rattle.xds_history.specs.Page.{update_of}

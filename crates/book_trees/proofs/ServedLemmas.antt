@@ -16,15 +16,15 @@ use Rattle.xds_config.specs.declared.config.Config.{Config}
 use Rattle.xds_config.specs.declared.endpoint_values.Locality.{Locality}
 use Rattle.xds_config.specs.Configs.{IsLawfulConfig}
 use Rattle.graceful_switch.specs.Takeover.{Pair, has_to_wait}
-use Rattle.tree_steps.specs.Reports.{Reports, at_priority, localities_of, children_of}
-use Rattle.tree_steps.specs.TreeSteps.{chosen_localities}
-use Rattle.tree_steps.specs.declared.tree_view.TreeView.{TreeView}
+use Rattle.xds_history.specs.tree_steps.Reports.{Reports, at_priority, localities_of, children_of}
+use Rattle.xds_history.specs.tree_steps.TreeSteps.{chosen_localities}
+use Rattle.xds_history.specs.tree_steps.declared.tree_view.TreeView.{TreeView}
 use Rattle.cluster_tree.specs.declared.cluster_trees.Cluster.{Cluster}
 use Rattle.cluster_tree.specs.StandingTrees as kept
 use Rattle.cluster_tree.specs.ViewChanges as seen
 use Rattle.call_journal.specs.declared.event.DriverEvent.{DriverEvent}
 use Rattle.call_journal.specs.declared.entry.Entry.{Entry}
-use Rattle.config_assembly.specs.Orders.{Name}
+use Rattle.xds_history.specs.config_assembly.Orders.{Name}
 use Rattle.xds_history.specs.declared.page.Tree.{Tree}
 use Rattle.xds_history.specs.declared.page.ClusterTrees.{ClusterTrees}
 use Rattle.xds_history.specs.declared.page.Page.{Page}

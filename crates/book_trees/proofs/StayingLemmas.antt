@@ -8,9 +8,9 @@ use Rattle.xc_base.specs.declared.reason.Reason.{Reason}
 use Rattle.xds_config.specs.declared.config.ClusterEntry.{ClusterEntry}
 use Rattle.xds_config.specs.declared.config.Config.{Config}
 use Rattle.xds_config.specs.Configs.{IsLawfulConfig}
-use Rattle.tree_steps.specs.Reports.{Reports}
-use Rattle.tree_steps.specs.TreeSteps.{chosen_localities}
-use Rattle.tree_steps.specs.declared.tree_view.TreeView.{TreeView}
+use Rattle.xds_history.specs.tree_steps.Reports.{Reports}
+use Rattle.xds_history.specs.tree_steps.TreeSteps.{chosen_localities}
+use Rattle.xds_history.specs.tree_steps.declared.tree_view.TreeView.{TreeView}
 use Rattle.cluster_tree.specs.declared.cluster_trees.Cluster.{Cluster}
 use Rattle.cluster_tree.specs.declared.cluster_trees.Standing.{Standing}
 use Rattle.cluster_tree.specs.StandingTrees.{Forest, forest_after, trees_in, view_in}

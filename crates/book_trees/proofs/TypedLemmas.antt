@@ -21,27 +21,27 @@ use Rattle.xds_config.specs.declared.value.Value.{Value}
 use Rattle.xds_config.specs.declared.config.Config.{Config}
 use Rattle.xds_config.specs.declared.listener_values.RoutesFrom.{RoutesFrom}
 use Rattle.xds_config.specs.Values.{kind_of}
-use Rattle.check_steps.specs.TableSteps.{◌>>=◌, readable}
-use Rattle.check_steps.specs.declared.check_fault.Stop.{Stop}
-use Rattle.check_steps.specs.declared.check_fault.Refusal.{Refusal}
-use Rattle.resource_check.specs.declared.raw.Raw.{Raw}
-use Rattle.resource_check.specs.declared.raw.Raw.TheVariants as raw
-use Rattle.resource_check.specs.declared.raw.Found.{Found}
-use Rattle.resource_check.specs.declared.resource.Checked.{Checked}
-use Rattle.resource_check.specs.declared.delivery.Delivery.{Delivery}
-use Rattle.resource_check.specs.Resources.{check_of, found_of, given_name, message_of, name_of, raw_kind, read_raw, under, value_of}
-use Rattle.resource_check.specs.Deliveries.{among as told_among, apart_where, delivery_of, told_apart, with_name}
+use Rattle.xds_history.specs.check_steps.TableSteps.{◌>>=◌, readable}
+use Rattle.xds_history.specs.check_steps.declared.check_fault.Stop.{Stop}
+use Rattle.xds_history.specs.check_steps.declared.check_fault.Refusal.{Refusal}
+use Rattle.xds_history.specs.resource_check.declared.raw.Raw.{Raw}
+use Rattle.xds_history.specs.resource_check.declared.raw.Raw.TheVariants as raw
+use Rattle.xds_history.specs.resource_check.declared.raw.Found.{Found}
+use Rattle.xds_history.specs.resource_check.declared.resource.Checked.{Checked}
+use Rattle.xds_history.specs.resource_check.declared.delivery.Delivery.{Delivery}
+use Rattle.xds_history.specs.resource_check.Resources.{check_of, found_of, given_name, message_of, name_of, raw_kind, read_raw, under, value_of}
+use Rattle.xds_history.specs.resource_check.Deliveries.{among as told_among, apart_where, delivery_of, told_apart, with_name}
 use Rattle.xds_cache.specs.declared.fate.Known.{Known}
 use Rattle.xds_cache.specs.KeptFates.{fate_at}
 use Rattle.call_journal.specs.declared.event.DriverEvent.{DriverEvent}
 use Rattle.call_journal.specs.declared.entry.What.{What}
 use Rattle.call_journal.specs.declared.entry.Entry.{Entry}
-use Rattle.config_assembly.specs.Orders.{Name}
-use Rattle.config_assembly.specs.ReachedResources.{Resources}
-use Rattle.config_assembly.specs.Front.{IsFrontAwaited, front, front_from, front_of_listener, front_of_route_value, given, named_in, named_routes}
-use Rattle.config_assembly.specs.Reach.{missing, reach}
-use Rattle.config_assembly.specs.WholeConfigs.{whole_config}
-use Rattle.config_assembly.proofs.ReachLemmas.{whole_where}
+use Rattle.xds_history.specs.config_assembly.Orders.{Name}
+use Rattle.xds_history.specs.config_assembly.ReachedResources.{Resources}
+use Rattle.xds_history.specs.config_assembly.Front.{IsFrontAwaited, front, front_from, front_of_listener, front_of_route_value, given, named_in, named_routes}
+use Rattle.xds_history.specs.config_assembly.Reach.{missing, reach}
+use Rattle.xds_history.specs.config_assembly.WholeConfigs.{whole_config}
+use Rattle.xds_history.proofs.config_assembly.ReachLemmas.{whole_where}
 use Rattle.xds_history.specs.Words.{among as named_among, lives_at, same_kind}
 use Rattle.xds_history.specs.Setting.{Setting, known_as, setting_of}
 use Rattle.xds_history.specs.declared.responses.Told.{Told}

@@ -8,7 +8,7 @@ use Rattle.xds_name.specs.declared.target.Target.{Target}
 use Rattle.xds_config.specs.declared.config.ClusterEntry.{ClusterEntry}
 use Rattle.xds_config.specs.declared.config.Config.{Config}
 use Rattle.xds_config.specs.Configs.{IsLawfulConfig}
-use Rattle.tree_steps.specs.declared.tree_view.TreeView.{TreeView}
+use Rattle.xds_history.specs.tree_steps.declared.tree_view.TreeView.{TreeView}
 use Rattle.cluster_tree.specs.ViewChanges.{IsChangeMark, localities_at}
 use Rattle.call_journal.specs.declared.event.DriverEvent.{DriverEvent}
 use Rattle.call_journal.specs.declared.event.CallerEvent.{CallerEvent}

@@ -15,9 +15,9 @@ use Rattle.xds_config.specs.Configs.{IsLawfulConfig, AreLawfulLeaves}
 use Rattle.priority_lb.specs.ChildHistories as children
 use Rattle.priority_lb.specs.ChildLaws.{all_facts}
 use Rattle.graceful_switch.specs.Takeover.{Pair}
-use Rattle.tree_steps.specs.declared.tree_view.TreeView.{TreeView}
-use Rattle.tree_steps.specs.Reports.{Reports, state_in, names_of, states_in}
-use Rattle.tree_steps.specs.TreeSteps.{TreeFacts}
+use Rattle.xds_history.specs.tree_steps.declared.tree_view.TreeView.{TreeView}
+use Rattle.xds_history.specs.tree_steps.Reports.{Reports, state_in, names_of, states_in}
+use Rattle.xds_history.specs.tree_steps.TreeSteps.{TreeFacts}
 use Rattle.cluster_tree.specs.declared.cluster_trees.Cluster.{Cluster}
 use Rattle.cluster_tree.specs.declared.cluster_trees.Standing.{Standing}
 use Rattle.cluster_tree.specs.StandingTrees.{Forest, IsUpdatedWith, DifferAt, standing}
@@ -26,7 +26,7 @@ use Rattle.call_journal.specs.declared.event.DriverEvent.{DriverEvent}
 use Rattle.call_journal.specs.declared.reply.DriverReply.{DriverReply}
 use Rattle.call_journal.specs.declared.entry.What.{What}
 use Rattle.call_journal.specs.declared.entry.Entry.{Entry}
-use Rattle.config_assembly.specs.Orders.{Name}
+use Rattle.xds_history.specs.config_assembly.Orders.{Name}
 use Rattle.xds_history.specs.declared.page.Glimpse.{Glimpse}
 use Rattle.xds_history.specs.declared.page.Tree.{Tree}
 use Rattle.xds_history.specs.declared.page.ClusterTrees.{ClusterTrees}

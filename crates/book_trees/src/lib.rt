@@ -8,3 +8,4 @@ pub mod reported_laws;
 pub mod reported_trees;
 
 pub use reported_trees::ReportedTrees;
+pub use xds_history::Prepared;

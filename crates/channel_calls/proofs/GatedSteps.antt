@@ -8,9 +8,9 @@ use Rattle.call_journal.specs.declared.entry.Entry.{Entry}
 use Rattle.call_journal.specs.declared.plan.Count.{Count}
 use Rattle.call_journal.specs.declared.plan.Listed.{Listed}
 use Rattle.call_journal.specs.declared.plan.ListedEvent.{ListedEvent}
-use Rattle.xds_history.specs.Setting.{Setting}
-use Rattle.xds_history.specs.References.{pinned}
-use Rattle.xds_history.specs.Pages.{pages}
+use Rattle.planned_calls.specs.xds_history.Setting.{Setting}
+use Rattle.planned_calls.specs.xds_history.References.{pinned}
+use Rattle.planned_calls.specs.xds_history.Pages.{pages}
 use Rattle.book_progress.specs.ActorCounts.{count_of}
 use Rattle.book_progress.specs.EndedLines.{IsOpen}
 use Rattle.book_progress.specs.PlayedPlans.{IsNext, IsNextOf, IsStep, Step}
@@ -20,10 +20,10 @@ use Rattle.book_progress.proofs.TallyLemmas.{count_is}
 use Rattle.planned_calls.specs.PlannedCalls.{IsNewCall, plan_entries}
 use Rattle.planned_calls.proofs.CallProofs.{next_hold_is_up, next_start_is_new}
 use Rattle.planned_calls.proofs.RoomProofs.{next_has_room}
-use Rattle.xds_book.specs.declared.book_faults.BookFault.{BookFault}
-use Rattle.xds_book.specs.BookEntries.{IsFull, IsKnownTo}
-use Rattle.xds_book.specs.BookViews.{BookView, LaneView}
-use Rattle.book_hearing.specs.HeardEvents.{IsShortIn}
+use Rattle.lane_checks.specs.xds_book.declared.book_faults.BookFault.{BookFault}
+use Rattle.lane_checks.specs.xds_book.BookEntries.{IsFull, IsKnownTo}
+use Rattle.lane_checks.specs.xds_book.BookViews.{BookView, LaneView}
+use Rattle.lane_checks.specs.book_hearing.HeardEvents.{IsShortIn}
 use Rattle.channel_calls.specs.ChannelPlans.{HasChannelPlan, HasListed}
 use Rattle.channel_calls.specs.declared.channel_faults.First.{First}
 use Rattle.channel_calls.specs.LockedBooks.{IsFree, IsOpenTo, LockedView}

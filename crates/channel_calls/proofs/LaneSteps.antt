@@ -12,15 +12,15 @@ use Rattle.call_journal.specs.declared.entry.What.{What}
 use Rattle.call_journal.specs.declared.plan.Count.{Count}
 use Rattle.check_steps.specs.Asking.{IsSubsequence}
 use Rattle.config_assembly.specs.Orders.{Name}
-use Rattle.xds_history.specs.Setting.{Setting}
-use Rattle.xds_history.specs.Page.{latest, latest_number}
-use Rattle.xds_history.specs.Pages.{pages}
-use Rattle.xds_history.specs.Responses.{answered_kind}
-use Rattle.xds_history.specs.Right.{pin_reply}
+use Rattle.planned_calls.specs.xds_history.Setting.{Setting}
+use Rattle.planned_calls.specs.xds_history.Page.{latest, latest_number}
+use Rattle.planned_calls.specs.xds_history.Pages.{pages}
+use Rattle.planned_calls.specs.xds_history.Responses.{answered_kind}
+use Rattle.planned_calls.specs.xds_history.Right.{pin_reply}
 use Rattle.book_progress.specs.ActorCounts.{count_after}
-use Rattle.book_hearing.specs.HeardEvents.{texts_of}
-use Rattle.xds_book.specs.BookEntries.{Drives, IsTokenOf, answered_call, lane_after, texts_for}
-use Rattle.xds_book.specs.BookViews.{BookView, LaneView, PinnedView}
+use Rattle.lane_checks.specs.book_hearing.HeardEvents.{texts_of}
+use Rattle.lane_checks.specs.xds_book.BookEntries.{Drives, IsTokenOf, answered_call, lane_after, texts_for}
+use Rattle.lane_checks.specs.xds_book.BookViews.{BookView, LaneView, PinnedView}
 use Rattle.channel_calls.specs.LockedBooks.{IsAfterEvent, IsAfterPin}
 
 abbrev lane_with : LaneView → Count → List Name → LaneView

@@ -5,10 +5,10 @@ use Rattle.call_journal.specs.declared.plan.Count.{Count}
 use Rattle.call_journal.specs.declared.plan.Listed.{Listed}
 use Rattle.call_journal.specs.declared.plan.ListedEvent.{ListedEvent}
 use Rattle.book_progress.specs.PlayedPlans.{IsListed}
-use Rattle.book_hearing.specs.HeardEvents.{IsShortIn}
+use Rattle.lane_checks.specs.book_hearing.HeardEvents.{IsShortIn}
 use Rattle.planned_calls.specs.PlannedCalls.{StartsOnce, plan_entries}
-use Rattle.xds_book.specs.BookEntries.{IsKnownTo}
-use Rattle.xds_book.specs.BookViews.{LaneView}
+use Rattle.lane_checks.specs.xds_book.BookEntries.{IsKnownTo}
+use Rattle.lane_checks.specs.xds_book.BookViews.{LaneView}
 
 -- ---- the plan
 

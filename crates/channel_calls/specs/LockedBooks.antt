@@ -8,8 +8,8 @@ use Rattle.book_progress.specs.ActorCounts.{with_ended, with_pin, without_pin}
 use Rattle.book_progress.specs.EndedLines.{IsOpen}
 use Rattle.book_progress.specs.PlayedPlans.{IsPlayed}
 use Rattle.book_progress.specs.ProgressKept.{counts_of, most_entries}
-use Rattle.xds_book.specs.BookEntries.{IsLaneOf}
-use Rattle.xds_book.specs.BookViews.{BookView, LaneView, PinnedView}
+use Rattle.lane_checks.specs.xds_book.BookEntries.{IsLaneOf}
+use Rattle.lane_checks.specs.xds_book.BookViews.{BookView, LaneView, PinnedView}
 use Rattle.channel_calls.specs.ChannelFaults.{IsFirst}
 use Rattle.channel_calls.specs.ChannelPlans.{HasChannelPlan}
 use Rattle.channel_calls.specs.declared.channel_faults.First.{First}

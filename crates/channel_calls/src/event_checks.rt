@@ -1,6 +1,6 @@
 //! Responses that are read and checked before any lock is taken.
 ghost use Rattle.std.specs.Prelude.{◌≡◌, ◌++◌, IfOk};
-ghost use Rattle.book_hearing.specs.HeardEvents.{IsPreparedFor, IsShortIn, texts_of};
+ghost use Rattle.lane_checks.specs.book_hearing.HeardEvents.{IsPreparedFor, IsShortIn, texts_of};
 
 use call_journal::DriverEvent;
 use header_match::Patterns;

@@ -8,31 +8,37 @@ use std::marker::Model;
 use std::mem;
 use xc_base::Memory;
 
-/// Who of those who wait has something to learn.
+/// Who of those who wait has something to learn. A caller is named by its place, of which the first is 0.
 #[derive(Clone, Copy)]
-pub(crate) struct News {
-    /// Whether the driver has.
-    pub(crate) driver: bool,
-    /// Whether a caller has.
-    pub(crate) callers: bool,
+pub(crate) enum News {
+    /// All have: the channel has ended.
+    Channel,
+    /// These have: lines have ended.
+    Lines {
+        /// Whether the driver has: the line that it waits for has ended.
+        driver: bool,
+        /// The caller that is the first to learn that a line has ended.
+        first: Option<usize>,
+        /// The caller that learns of it from one that has learned of it.
+        next: Option<usize>,
+    },
 }
 
 impl News {
     /// Nobody has.
-    const NONE: News = News {
+    const NONE: News = News::Lines {
         driver: false,
-        callers: false,
-    };
-
-    /// All have.
-    const ALL: News = News {
-        driver: true,
-        callers: true,
+        first: None,
+        next: None,
     };
 }
 
-/// The line that the driver and each caller waits for, or waited for last; the first fault, once there is one; and who has
-/// something to learn. Contracts see the first fault.
+/// The line that the driver and each caller waits for; the first fault, once there is one; and who has something to learn.
+/// Contracts see the first fault.
+///
+/// Of the callers that wait for a line the last learns of its end at once, and each of them, behind its next step, tells the one
+/// before it. So they don't all ask for the lock at once, and who waits for the first of them, as the driver often does, sleeps
+/// but once.
 #[derive(Drop)]
 pub(crate) struct Waits {
     first: Option<First>,
@@ -81,7 +87,7 @@ impl Waits {
         ensures { self.new ≡ Some first }
     {
         self.first = Some(first);
-        self.news = News::ALL;
+        self.news = News::Channel;
     }
 
     /// Notes the line that an actor waits for.
@@ -97,19 +103,60 @@ impl Waits {
         }
     }
 
-    /// Who waits for the line, and so learns of its end.
-    pub(crate) fn news_of(&self, line: u32) -> News {
-        News {
-            driver: self.driver == Some(line),
-            callers: self.callers.contains(&Some(line)),
+    /// Has an actor wait no more. Where it has waited for this line, the last of the other callers that do is told next.
+    pub(crate) fn pass_on(&mut self, actor: u16, line: Option<u32>)
+        ensures { self.new ≡ self.old }
+    {
+        let Some(caller) = usize::from(actor).checked_sub(1) else {
+            self.driver = None;
+            return;
+        };
+        if caller < self.callers.len() {
+            let awaited = mem::replace(&mut self.callers[caller], None);
+            if let Some(line) = line
+                && awaited == Some(line)
+            {
+                let last = self.last_caller(line);
+                self.tell_next(last);
+            }
         }
     }
 
-    /// Keeps who has something to learn.
-    pub(crate) fn tell(&mut self, news: News)
+    /// The place of the last caller that waits for the line.
+    fn last_caller(&self, line: u32) -> Option<usize> {
+        let mut last = None;
+        for (place, awaited) in self.callers.iter().enumerate() {
+            if *awaited == Some(line) {
+                last = Some(place);
+            }
+        }
+        last
+    }
+
+    /// Whether anybody waits for the line.
+    pub(crate) fn is_awaited(&self, line: u32) -> bool {
+        self.driver == Some(line) || self.last_caller(line).is_some()
+    }
+
+    /// The line has ended, of which who waits for it learns.
+    pub(crate) fn end_line(&mut self, line: u32)
         ensures { self.new ≡ self.old }
     {
-        self.news = news;
+        let last = self.last_caller(line);
+        let waits = self.driver == Some(line);
+        if let News::Lines { driver, first, .. } = &mut self.news {
+            *driver = waits;
+            *first = last;
+        }
+    }
+
+    /// A caller is told by the one that steps now.
+    fn tell_next(&mut self, caller: Option<usize>)
+        ensures { self.new ≡ self.old }
+    {
+        if let News::Lines { next, .. } = &mut self.news {
+            *next = caller;
+        }
     }
 
     /// Who has something to learn, and is told now.

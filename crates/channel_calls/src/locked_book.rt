@@ -4,9 +4,9 @@ ghost use Rattle.call_journal.specs.declared.plan.Count.{Count as CountValue};
 ghost use Rattle.call_journal.specs.declared.plan.ListedEvent.{ListedEvent};
 ghost use Rattle.route_match.specs.Routes.{route};
 ghost use Rattle.book_progress.specs.ProgressKept.{most_entries};
-ghost use Rattle.book_hearing.specs.HeardEvents.{IsPreparedFor, texts_of};
-ghost use Rattle.xds_book.specs.BookViews.{pinned_front};
-ghost use Rattle.xds_book.specs.declared.book_faults.BookFault.TheVariants as Fault;
+ghost use Rattle.lane_checks.specs.book_hearing.HeardEvents.{IsPreparedFor, texts_of};
+ghost use Rattle.lane_checks.specs.xds_book.BookViews.{pinned_front};
+ghost use Rattle.lane_checks.specs.xds_book.declared.book_faults.BookFault.TheVariants as Fault;
 ghost use Rattle.channel_calls.specs.ChannelFaults.{IsCauseAt};
 ghost use Rattle.channel_calls.specs.ChannelPlans.{HasActor, HasChannelPlan, HasNext, HasUp};
 ghost use Rattle.channel_calls.specs.LockedBooks.{IsAfterEvent, IsAfterPin, IsFree, IsOpenTo, lane_ended, lane_held};
@@ -14,7 +14,9 @@ ghost use Rattle.channel_calls.specs.LockedBooks.{IsAfterEvent, IsAfterPin, IsFr
 use crate::channel_faults::{ChanFault, First};
 use crate::line_waits::{News, Waits};
 use call_journal::DriverEvent;
-use lane_checks::{Difference, GatedLine, find_difference, has_to_wait};
+use lane_checks::{
+    Book, BookFault, Difference, GatedLine, Job, Lane, Pinned, find_difference, has_to_wait,
+};
 use resource_check::Prepared;
 use route_match::RouteAnswer;
 use std::alloc::Global;
@@ -22,7 +24,6 @@ use std::marker::Model;
 use std::sync::Wait;
 use std::sync::ledger::Ledger;
 use xc_base::{Call, CallId, Memory, Shared, Steps};
-use xds_book::{Book, BookFault, Job, Lane, Pinned};
 
 /// The Book of a channel, and those who wait for its lines. Contracts see the Book, and the fault by which the channel has
 /// ended.
@@ -87,11 +88,17 @@ impl<J: Job> Locked<J> {
         self.waits.take_news()
     }
 
+    /// Has the lane's actor wait no more, and tell the next that waits for the same line.
+    pub(crate) fn pass_on(&mut self, lane: &Lane<J>, after: Option<u32>)
+        ensures { self.new ≡ self.old }
+    {
+        self.waits.pass_on(lane.actor(), after);
+    }
+
     /// Tells those who wait for the line, where it has ended.
     fn tell(&mut self, line: u32) {
-        let news = self.waits.news_of(line);
-        if (news.driver || news.callers) && self.book.line_done(line) {
-            self.waits.tell(news);
+        if self.waits.is_awaited(line) && self.book.line_done(line) {
+            self.waits.end_line(line);
         }
     }
 

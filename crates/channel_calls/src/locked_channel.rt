@@ -9,9 +9,9 @@ ghost use Rattle.call_journal.specs.declared.plan.Count.{Count as CountValue};
 ghost use Rattle.call_journal.specs.declared.plan.ListedEvent.{ListedEvent};
 ghost use Rattle.route_match.specs.Routes.{route};
 ghost use Rattle.book_progress.specs.ProgressKept.{most_entries};
-ghost use Rattle.xds_book.specs.BookEntries.{first_lane};
-ghost use Rattle.xds_book.specs.BookKept.{HasActors};
-ghost use Rattle.xds_book.specs.BookViews.{pinned_front};
+ghost use Rattle.lane_checks.specs.xds_book.BookEntries.{first_lane};
+ghost use Rattle.lane_checks.specs.xds_book.BookKept.{HasActors};
+ghost use Rattle.lane_checks.specs.xds_book.BookViews.{pinned_front};
 ghost use Rattle.channel_calls.specs.ChannelFaults.{IsCauseAt};
 ghost use Rattle.channel_calls.specs.ChannelPlans.{HasChannelPlan, HasNext, HasUp};
 ghost use Rattle.channel_calls.specs.LockedBooks.{IsAfterPin, IsDriven, IsFree, lane_ended, lane_held, lane_pinned};
@@ -20,19 +20,19 @@ use crate::call_gate::Gate;
 use crate::channel_faults::ChanFault;
 use crate::event_checks::prepared_event;
 use crate::locked_book::Locked;
+use crate::sleepers::Sleepers;
 use call_journal::DriverEvent;
 use cluster_tree::Snapshot;
 use header_match::Patterns;
-use lane_checks::GatedLine;
+use lane_checks::{Book, GatedLine, Job, Lane, Pinned};
 use route_match::RouteAnswer;
 use snapshot_store::Archive;
 use std::alloc::Global;
 use std::marker::Model;
 use std::sync::ledger::Ledger;
-use std::sync::{Condvar, Mutex, MutexGuard, Wait};
+use std::sync::{Mutex, MutexGuard, Wait};
 use std::time::Duration;
 use xc_base::{Call, CallId, List, Memory, Shared, Steps};
-use xds_book::{Book, Job, Lane, Pinned};
 use xds_bootstrap::Bootstrap;
 use xds_name::Target;
 
@@ -45,9 +45,7 @@ const LONGEST_SLEEP: u64 = 3_600;
 pub struct Channel<J: Job> {
     alloc: Global,
     locked: Mutex<Locked<J>>,
-    /// On this the driver sleeps, and on the other the callers: they seldom wait for the same line.
-    told_driver: Condvar,
-    told_callers: Condvar,
+    sleepers: Sleepers,
 }
 
 impl<J: Job> Model for Channel<J> {
@@ -86,11 +84,11 @@ impl<J: Job> Channel<J> {
     {
         let (book, lanes) = Book::begin(alloc, boot, target, callers, room, archive)?;
         let locked = Locked::new(alloc, book)?;
+        let sleepers = Sleepers::new(alloc, callers)?;
         let channel = Channel {
             alloc,
             locked: Mutex::new(locked),
-            told_driver: Condvar::new(),
-            told_callers: Condvar::new(),
+            sleepers,
         };
         Ok((channel, lanes))
     }
@@ -201,11 +199,9 @@ impl<J: Job> Channel<J> {
         let Channel {
             alloc: _,
             locked,
-            told_driver,
-            told_callers,
+            sleepers,
         } = self;
-        drop(told_driver);
-        drop(told_callers);
+        drop(sleepers);
         locked.into_inner().into_book()
     }
 
@@ -233,10 +229,11 @@ impl<J: Job> Channel<J> {
         let mut locked = self.locked.lock(rt);
         for _ in rt.forever() {
             if !locked.holds_back(lane, after) {
+                locked.pass_on(lane, after);
                 return locked;
             }
             locked.note(lane, after);
-            let told = self.told(lane.actor());
+            let told = self.sleepers.told(lane.actor());
             let before = told.notifications();
             drop(locked);
             told.sleep(rt, before, Duration::from_secs(LONGEST_SLEEP));
@@ -245,25 +242,12 @@ impl<J: Job> Channel<J> {
         locked
     }
 
-    /// The condition variable on which an actor sleeps.
-    fn told(&self, actor: u16) -> &Condvar {
-        match actor {
-            0 => &self.told_driver,
-            _ => &self.told_callers,
-        }
-    }
-
     /// Lets the lock go, and wakes those who wait and have something to learn.
     fn leave(&self, locked: MutexGuard<'_, Locked<J>>) {
         let mut locked = locked;
         let news = locked.take_news();
         drop(locked);
-        if news.driver {
-            self.told_driver.notify_all();
-        }
-        if news.callers {
-            self.told_callers.notify_all();
-        }
+        self.sleepers.wake(news);
     }
 
     /// Pins the latest snapshot for a call. The token is None where none was published.

@@ -2,18 +2,18 @@
 use denote.Param.Send.{IsSend, sendable}
 use denote.Param.SendFields.{declared_send}
 use Rattle.std.proofs.Crossing.{crosses}
-use Rattle.book_driver.proofs.subscriptions.Settled.TheSendSync.{the_send as settled_send}
-use Rattle.book_streams.proofs.all_streams.Streams.TheSendSync.{the_send as streams_send}
-use Rattle.book_trees.proofs.reported_trees.ReportedTrees.TheSendSync.{the_send as reported_trees_send}
+use Rattle.channel_calls.proofs.book_driver.subscriptions.Settled.TheSendSync.{the_send as settled_send}
+use Rattle.channel_calls.proofs.book_streams.all_streams.Streams.TheSendSync.{the_send as streams_send}
+use Rattle.channel_calls.proofs.book_trees.reported_trees.ReportedTrees.TheSendSync.{the_send as reported_trees_send}
 use Rattle.channel_crossing.proofs.BookFates.{fates_send}
 use Rattle.channel_crossing.proofs.DepManager.{deps_send}
 use Rattle.channel_crossing.proofs.XdsConfig.{config_send, config_sync}
 use Rattle.xc_base.proofs.shared.Shared.TheSendSync.{the_send as shared_send}
 use Rattle.xds_bootstrap.proofs.bootstrap.Bootstrap.TheSendSync.{the_send as bootstrap_send}
-use Rattle.book_driver.specs.contracts.watcher.Watcher as Watcher
-use Rattle.book_driver.specs.contracts.subscriptions.Subscriptions as Subscriptions
-use Rattle.book_driver.specs.contracts.configured_trees.ConfiguredTrees as ConfiguredTrees
-use Rattle.book_driver.specs.contracts.channel_driver.Driver as Driver
+use Rattle.channel_calls.specs.book_driver.contracts.watcher.Watcher as Watcher
+use Rattle.channel_calls.specs.book_driver.contracts.subscriptions.Subscriptions as Subscriptions
+use Rattle.channel_calls.specs.book_driver.contracts.configured_trees.ConfiguredTrees as ConfiguredTrees
+use Rattle.channel_calls.specs.book_driver.contracts.channel_driver.Driver as Driver
 
 pub watcher_send : IsSend Watcher.the_row
 watcher_send = declared_send Watcher.the_type (search (sendable, crosses, bootstrap_send, deps_send, streams_send, fates_send) depth 30 steps 3000000)

@@ -3,8 +3,8 @@ use denote.RattleType.{RattleType}
 use denote.Param.Send.{IsSend, sendable}
 use denote.Param.SendFields.{declared_send}
 use Rattle.std.proofs.Crossing.{crosses}
-use Rattle.book_calls.proofs.calls.Calls.TheSendSync.{the_send as calls_send}
-use Rattle.book_picks.proofs.kept_turns.Turns.TheSendSync.{the_send as turns_send}
+use Rattle.channel_calls.proofs.book_calls.calls.Calls.TheSendSync.{the_send as calls_send}
+use Rattle.channel_calls.proofs.book_picks.kept_turns.Turns.TheSendSync.{the_send as turns_send}
 use Rattle.book_progress.proofs.counted_journal.CountedJournal.TheSendSync.{the_send as counted_journal_send}
 use Rattle.channel_crossing.proofs.BookDriver.{driver_send}
 use Rattle.channel_crossing.proofs.ClusterTree.{snapshot_send, snapshot_sync}
@@ -13,9 +13,9 @@ use Rattle.std.proofs.marker.PhantomData.TheSendSync.{the_send as phantom_send}
 use Rattle.xc_base.proofs.list.List.TheSendSync.{the_send as list_send}
 use Rattle.xc_base.proofs.shared.Shared.TheSendSync.{the_send as shared_send}
 use Rattle.xc_base.proofs.text.Text.TheSendSync.{the_send as text_send}
-use Rattle.xds_book.specs.declared.jobs.Job.{Ghosts}
-use Rattle.xds_book.specs.contracts.channel_book.Book as Book
-use Rattle.xds_book.specs.contracts.channel_book.Book.TheInside as BookInside
+use Rattle.channel_calls.specs.xds_book.declared.jobs.Job.{Ghosts}
+use Rattle.channel_calls.specs.xds_book.contracts.channel_book.Book as Book
+use Rattle.channel_calls.specs.xds_book.contracts.channel_book.Book.TheInside as BookInside
 
 pub book_send : (J : RattleType) (g : Ghosts J.Denot) → IsSend J → IsSend (Book.the_row J g)
 book_send J g s =

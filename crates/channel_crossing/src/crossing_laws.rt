@@ -1,8 +1,7 @@
 //! The laws that a channel may be sent to another thread, and shared with others, and so may what its threads hold, each as a
 //! call that asks for it.
-use channel_calls::Channel;
+use channel_calls::{Channel, Job, Lane};
 use cluster_tree::Snapshot;
-use xds_book::{Job, Lane};
 
 /// Asks for a value that may be sent to another thread.
 fn is_sent<T: Send>(_value: &T) {}

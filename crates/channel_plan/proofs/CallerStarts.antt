@@ -18,7 +18,7 @@ use Rattle.session_script.specs.Plan as script
 use Rattle.session_script.specs.Plan.{driver_list, is_of_caller, lines_by, none_up}
 use Rattle.session_plan.specs.PlanOfSession.{act_event, caller_plan, events_in, events_on, plan_item, plan_of}
 use Rattle.session_plan.specs.ReadablePayloads.{is_response}
-use Rattle.planned_calls.specs.PlannedCalls.{IsStartAt, IsStartOf, StartsOnce}
+use Rattle.channel_calls.specs.planned_calls.PlannedCalls.{IsStartAt, IsStartOf, StartsOnce}
 use Rattle.session_shape.specs.SessionShape.{IsCalled, IsWellFormed, IsWork}
 use Rattle.session_player.proofs.ShapeLemmas.{line_behind}
 use Rattle.channel_plan.proofs.LineGates.{IsListFor, list_for}

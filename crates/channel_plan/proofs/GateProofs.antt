@@ -15,13 +15,13 @@ use Rattle.call_journal.specs.declared.plan.ListedEvent.{ListedEvent}
 use Rattle.session_lines.specs.declared.session.Session.{Session}
 use Rattle.session_plan.specs.PlanOfSession.{plan_of}
 use Rattle.session_plan.specs.ReadablePayloads.{is_response}
-use Rattle.xds_history.specs.Setting.{Setting}
-use Rattle.xds_history.specs.Right.{IsReply, Right, pin_reply}
-use Rattle.xds_history.specs.Page.{latest_number}
-use Rattle.xds_history.specs.declared.page.Page.{Page}
-use Rattle.xds_history.specs.Pages.{pages}
-use Rattle.legal_history.specs.Legal as legal
-use Rattle.legal_history.specs.Legal.{AreOpen, gate_of}
+use Rattle.channel_calls.specs.xds_history.Setting.{Setting}
+use Rattle.channel_calls.specs.xds_history.Right.{IsReply, Right, pin_reply}
+use Rattle.channel_calls.specs.xds_history.Page.{latest_number}
+use Rattle.channel_calls.specs.xds_history.declared.page.Page.{Page}
+use Rattle.channel_calls.specs.xds_history.Pages.{pages}
+use Rattle.session_player.specs.legal_history.Legal as legal
+use Rattle.session_player.specs.legal_history.Legal.{AreOpen, gate_of}
 use Rattle.book_progress.specs.ActorCounts.{actor_entries, count_after, count_of, no_count, with_ended, with_pin, without_pin}
 use Rattle.book_progress.specs.EndedLines.{IsOpen, ends_line, has_ended, pin_ends}
 use Rattle.book_progress.specs.PlayedPlans as played

@@ -15,7 +15,7 @@ use Rattle.session_plan.specs.PlanOfSession.{caller_plan, driver_plan, events_in
 use Rattle.session_plan.specs.ReadablePayloads.{is_response}
 use Rattle.session_plan.proofs.DriverLemmas.{list_end, list_more}
 use Rattle.session_plan.proofs.LawProofs.{caller_at}
-use Rattle.legal_history.specs.Legal.{gate_of}
+use Rattle.session_player.specs.legal_history.Legal.{gate_of}
 use Rattle.session_shape.specs.SessionShape.{IsWellFormed}
 use Rattle.session_player.proofs.ShapeLemmas.{gate_at, no_gate}
 

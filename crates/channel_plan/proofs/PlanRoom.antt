@@ -16,7 +16,7 @@ use Rattle.session_script.specs.Plan.{Streams, driver_list, is_of_caller, lines_
 use Rattle.session_plan.specs.PlanOfSession.{act_event, caller_plan, driver_plan, events_in, events_on, plan_item, plan_of}
 use Rattle.session_plan.specs.ReadablePayloads.{is_response}
 use Rattle.session_plan.proofs.DriverLemmas.{list_end, list_more}
-use Rattle.planned_calls.specs.PlannedCalls.{event_entries, list_entries, plan_entries}
+use Rattle.channel_calls.specs.planned_calls.PlannedCalls.{event_entries, list_entries, plan_entries}
 use Rattle.session_player.proofs.EventLemmas.{few_events}
 
 -- ---- sums

@@ -5,9 +5,9 @@ use Rattle.session_lines.specs.Before.{entries}
 use Rattle.session_lines.specs.declared.session.Session.{Session}
 use Rattle.session_plan.specs.PlanOfSession.{plan_of}
 use Rattle.session_plan.specs.ReadablePayloads.{is_response}
-use Rattle.xds_history.specs.Right.{Right}
-use Rattle.xds_history.specs.Setting.{Setting}
-use Rattle.legal_history.specs.Legal.{AreOpen}
+use Rattle.channel_calls.specs.xds_history.Right.{Right}
+use Rattle.channel_calls.specs.xds_history.Setting.{Setting}
+use Rattle.session_player.specs.legal_history.Legal.{AreOpen}
 use Rattle.book_progress.specs.PlayedPlans.{IsPlanPlayed}
 use Rattle.channel_calls.specs.ChannelPlans.{IsChannelPlan}
 use Rattle.session_shape.specs.SessionShape.{IsWellFormed}

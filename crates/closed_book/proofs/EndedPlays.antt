@@ -14,19 +14,19 @@ use Rattle.xds_name.specs.declared.target.Target.{Target}
 use Rattle.session_lines.specs.declared.session.Session.{Session}
 use Rattle.session_plan.specs.PlanOfSession.{plan_of}
 use Rattle.session_plan.specs.ReadablePayloads.{is_response}
-use Rattle.xds_history.specs.Right.{Right}
-use Rattle.xds_history.specs.Setting.{setting_of}
-use Rattle.legal_history.specs.Legal.{EndsInSweep, Legal}
+use Rattle.channel_plan.specs.xds_history.Right.{Right}
+use Rattle.channel_plan.specs.xds_history.Setting.{setting_of}
+use Rattle.channel_plan.specs.legal_history.Legal.{EndsInSweep, Legal}
 use Rattle.book_progress.specs.ActorCounts.{count_of, no_count}
 use Rattle.book_progress.specs.PlayedPlans.{IsPlayed}
 use Rattle.book_progress.specs.ProgressKept.{counts_of}
 use Rattle.channel_plan.proofs.GateProofs.{gates_are_open}
-use Rattle.xds_book.specs.BookKept.{HasActors, IsBy}
-use Rattle.xds_book.specs.BookViews.{BookView}
-use Rattle.session_player.specs.LineProgress.{HaveLeft}
-use Rattle.session_player.specs.Stages.{IsOfSession}
-use Rattle.session_player.proofs.EndLemmas.{end_is_legal}
-use Rattle.lane_checks.specs.EndedPlans.{HaveEndedTo, all_ended}
+use Rattle.channel_plan.specs.xds_book.BookKept.{HasActors, IsBy}
+use Rattle.channel_plan.specs.xds_book.BookViews.{BookView}
+use Rattle.channel_plan.specs.session_player.LineProgress.{HaveLeft}
+use Rattle.channel_plan.specs.session_player.Stages.{IsOfSession}
+use Rattle.channel_plan.proofs.session_player.EndLemmas.{end_is_legal}
+use Rattle.channel_plan.specs.lane_checks.EndedPlans.{HaveEndedTo, all_ended}
 
 no_entries : (n actor : ℕ) (history : List Entry) → n ≤ actor → All (IsBy n) history → count_of actor history ≡ no_count
 no_entries n actor [] most made = refl

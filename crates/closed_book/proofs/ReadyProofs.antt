@@ -12,16 +12,16 @@ use Rattle.call_journal.specs.declared.plan.Count.{Count}
 use Rattle.call_journal.specs.declared.plan.Listed.{Listed}
 use Rattle.config_assembly.specs.Orders.{Name}
 use Rattle.resource_check.specs.declared.delivery.Prepared.{Prepared}
-use Rattle.xds_history.specs.Responses.{refused_in, refused_texts}
+use Rattle.channel_plan.specs.xds_history.Responses.{refused_in, refused_texts}
 use Rattle.book_progress.specs.ActorCounts.{count_after, count_of, with_ended}
 use Rattle.book_progress.specs.PlayedPlans.{IsListed, all_ended}
 use Rattle.book_progress.specs.ProgressKept.{counts_of}
 use Rattle.book_progress.proofs.TallyLemmas.{count_at, count_is}
 use Rattle.sweep_law.specs.SweepLaw.{listed_sweep}
-use Rattle.xds_book.specs.BookEntries.{Drives, IsLaneOf, entry_of}
-use Rattle.xds_book.specs.BookKept.{HasActors}
-use Rattle.xds_book.specs.BookViews.{BookView, LaneView}
-use Rattle.lane_checks.specs.EndedPlans.{HaveEndedTo}
+use Rattle.channel_plan.specs.xds_book.BookEntries.{Drives, IsLaneOf, entry_of}
+use Rattle.channel_plan.specs.xds_book.BookKept.{HasActors}
+use Rattle.channel_plan.specs.xds_book.BookViews.{BookView, LaneView}
+use Rattle.channel_plan.specs.lane_checks.EndedPlans.{HaveEndedTo}
 use Rattle.closed_book.specs.ReadyBooks.{IsCallerOf, IsReadyToClose}
 
 -- ---- before the last sweep

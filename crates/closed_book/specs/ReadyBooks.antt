@@ -1,13 +1,13 @@
 -- Books in which all is played but the last sweep (this project's own).
 use Rattle.std.specs.Prelude.{◌≡◌, ◌<◌, ◌≤◌, ◌^◌, ℕ, List, length, All, Some, false, slice_get}
 use Rattle.call_journal.specs.declared.plan.Listed.{Listed}
-use Rattle.xds_history.specs.Responses.{refused_texts}
+use Rattle.channel_plan.specs.xds_history.Responses.{refused_texts}
 use Rattle.book_progress.specs.ActorCounts.{count_of, with_ended}
 use Rattle.book_progress.specs.PlayedPlans.{IsListed, all_ended}
 use Rattle.book_progress.specs.ProgressKept.{most_entries}
 use Rattle.sweep_law.specs.SweepLaw.{listed_sweep}
-use Rattle.xds_book.specs.BookEntries.{IsLaneOf}
-use Rattle.xds_book.specs.BookViews.{BookView, LaneView}
+use Rattle.channel_plan.specs.xds_book.BookEntries.{IsLaneOf}
+use Rattle.channel_plan.specs.xds_book.BookViews.{BookView, LaneView}
 
 -- a caller's lane is of the Book
 pub record IsCallerOf (book : BookView) (lane : LaneView) : Type 0 where

@@ -3,30 +3,30 @@ ghost use Rattle.std.specs.Prelude.{◌≡◌, ◌≢◌, ◌↔◌, ◌<◌, �
 ghost use Rattle.snapshot_store.specs.Tickets.{values_of};
 ghost use Rattle.call_journal.specs.declared.event.DriverEvent.TheVariants.{Sweep as SweepValue};
 ghost use Rattle.session_lines.specs.declared.session.Session.{Session as SessionValue};
-ghost use Rattle.xds_history.specs.Pages.{pages};
-ghost use Rattle.xds_history.specs.References.{snapshots_of};
-ghost use Rattle.xds_history.specs.Responses.{refused_texts};
-ghost use Rattle.xds_history.specs.Setting.{setting_of};
-ghost use Rattle.legal_history.specs.Legal.{EndsInSweep, Legal};
+ghost use Rattle.channel_plan.specs.xds_history.Pages.{pages};
+ghost use Rattle.channel_plan.specs.xds_history.References.{snapshots_of};
+ghost use Rattle.channel_plan.specs.xds_history.Responses.{refused_texts};
+ghost use Rattle.channel_plan.specs.xds_history.Setting.{setting_of};
+ghost use Rattle.channel_plan.specs.legal_history.Legal.{EndsInSweep, Legal};
 ghost use Rattle.book_progress.specs.PlayedPlans.{IsNext};
 ghost use Rattle.book_progress.specs.PlayedPlans as played;
 ghost use Rattle.book_progress.specs.ProgressKept.{most_entries};
-ghost use Rattle.xds_book.specs.BookEntries.{Drives, IsLaneOf};
-ghost use Rattle.xds_book.specs.BookViews.{LaneView};
-ghost use Rattle.xds_book.specs.declared.book_faults.BookFault.TheVariants.{Memory as BookMemory};
-ghost use Rattle.session_player.specs.Stages.{IsOfSession};
-ghost use Rattle.lane_checks.specs.EndedPlans.{HaveEndedTo};
+ghost use Rattle.channel_plan.specs.xds_book.BookEntries.{Drives, IsLaneOf};
+ghost use Rattle.channel_plan.specs.xds_book.BookViews.{LaneView};
+ghost use Rattle.channel_plan.specs.xds_book.declared.book_faults.BookFault.TheVariants.{Memory as BookMemory};
+ghost use Rattle.channel_plan.specs.session_player.Stages.{IsOfSession};
+ghost use Rattle.channel_plan.specs.lane_checks.EndedPlans.{HaveEndedTo};
 ghost use Rattle.closed_book.specs.ReadyBooks.{IsReadyToClose};
 ghost use Rattle.closed_book.specs.declared.stops.Stop.TheVariants.{Memory as NoMemory, Strange};
 
 use crate::stops::Stop;
 use call_journal::{DriverEvent, Plan};
-use lane_checks::{have_played_all, is_last_sweep, next_listed};
-use session_player::Played;
+use channel_plan::{
+    Book, BookFault, Job, Lane, Played, have_played_all, is_last_sweep, next_listed,
+};
 use std::sync::Wait;
 use std::sync::ledger::{Blank, Ledger};
 use xc_base::{List, Steps};
-use xds_book::{Book, BookFault, Job, Lane};
 
 /// The Book of a channel whose threads have ended, with the lanes of the callers, and the plan that they and the driver played.
 #[derive(Drop)]

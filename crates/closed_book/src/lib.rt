@@ -5,4 +5,5 @@ pub mod book_report;
 pub mod stops;
 
 pub use book_report::ClosedBook;
+pub use channel_plan::{Job, Lane, Played, ends, play, shared_event};
 pub use stops::Stop;

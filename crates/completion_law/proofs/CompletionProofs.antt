@@ -14,10 +14,10 @@ use Rattle.session_plan.specs.PlanLaws.{HaveEnded}
 use Rattle.session_plan.specs.PlanOfSession.{plan_of}
 use Rattle.session_plan.specs.PlayedEvents as events
 use Rattle.session_plan.specs.ReadablePayloads.{is_response}
-use Rattle.xds_history.specs.Setting.{Setting, setting_of}
-use Rattle.xds_history.specs.Right.{Right}
-use Rattle.legal_history.specs.Legal.{EndsInSweep, Legal}
-use Rattle.legal_plan.proofs.LegalityProofs.{ended_plan_is_legal}
+use Rattle.reply_law.specs.xds_history.Setting.{Setting, setting_of}
+use Rattle.reply_law.specs.xds_history.Right.{Right}
+use Rattle.sweep_law.specs.legal_history.Legal.{EndsInSweep, Legal}
+use Rattle.sweep_law.proofs.legal_plan.LegalityProofs.{ended_plan_is_legal}
 use Rattle.session_shape.specs.SessionShape.{AreLines}
 use Rattle.book_progress.specs.ActorCounts.{actor_entries, count_after, count_of, with_ended}
 use Rattle.book_progress.specs.PlayedPlans.{IsNextOf, IsPlanPlayed, Step, all_ended, driver, step_in}

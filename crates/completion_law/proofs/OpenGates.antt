@@ -11,19 +11,19 @@ use Rattle.call_journal.specs.declared.plan.Listed.{Listed}
 use Rattle.session_lines.specs.declared.session.Session.{Session}
 use Rattle.session_plan.specs.PlanOfSession.{plan_of}
 use Rattle.session_plan.specs.ReadablePayloads.{is_response}
-use Rattle.xds_history.specs.Setting.{Setting}
-use Rattle.xds_history.specs.Right.{IsReply, Right, pin_reply}
-use Rattle.xds_history.specs.Page.{latest_number}
-use Rattle.xds_history.specs.declared.page.Page.{Page}
-use Rattle.xds_history.specs.Pages.{pages}
-use Rattle.legal_history.specs.Legal as legal
-use Rattle.legal_history.specs.Legal.{AreOpen, gate_of}
+use Rattle.reply_law.specs.xds_history.Setting.{Setting}
+use Rattle.reply_law.specs.xds_history.Right.{IsReply, Right, pin_reply}
+use Rattle.reply_law.specs.xds_history.Page.{latest_number}
+use Rattle.reply_law.specs.xds_history.declared.page.Page.{Page}
+use Rattle.reply_law.specs.xds_history.Pages.{pages}
+use Rattle.sweep_law.specs.legal_history.Legal as legal
+use Rattle.sweep_law.specs.legal_history.Legal.{AreOpen, gate_of}
 use Rattle.session_shape.specs.SessionShape.{AreLines}
 use Rattle.book_progress.specs.ActorCounts.{count_of}
 use Rattle.book_progress.specs.EndedLines.{IsOpen, ends_line, has_ended, pin_ends}
 use Rattle.book_progress.specs.PlayedPlans.{IsNextOf, IsPlanPlayed, step_in}
-use Rattle.next_law.proofs.GateLemmas.{list_gate}
-use Rattle.next_law.proofs.ListLemmas.{list_for}
+use Rattle.sweep_law.proofs.next_law.GateLemmas.{list_gate}
+use Rattle.sweep_law.proofs.next_law.ListLemmas.{list_for}
 use Rattle.completion_law.proofs.PlayedBefore.{next_of_played, played_before}
 
 -- ---- lines that have ended, where replies are right

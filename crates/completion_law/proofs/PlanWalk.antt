@@ -13,7 +13,7 @@ use Rattle.session_shape.specs.SessionShape.{AreLines, IsGate, IsLine}
 use Rattle.book_progress.specs.ActorCounts.{actor_entries, count_of}
 use Rattle.book_progress.specs.EndedLines.{IsOpen, has_ended}
 use Rattle.book_progress.specs.PlayedPlans.{IsPlanPlayed}
-use Rattle.next_law.proofs.ListLemmas.{list_of}
+use Rattle.sweep_law.proofs.next_law.ListLemmas.{list_of}
 use Rattle.completion_law.specs.CompletionLaw.{GoesOn}
 use Rattle.completion_law.proofs.LineItems.{EndsIn, HasAt, IsOf, actor_of, actor_within, all_of, at_middle, items_by, last_at, left_more, left_to, line_ends, none_by}
 use Rattle.completion_law.proofs.PlayedItems.{HasStep, item_ended, next_step, own_ended}

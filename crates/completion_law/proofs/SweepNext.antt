@@ -14,8 +14,8 @@ use Rattle.session_plan.proofs.DriverLemmas.{list_end}
 use Rattle.book_progress.specs.ActorCounts.{actor_entries, count_of, with_ended}
 use Rattle.book_progress.specs.EndedLines.{has_ended}
 use Rattle.book_progress.specs.PlayedPlans.{HasPlayed, IsPlanPlayed, all_ended}
-use Rattle.next_law.proofs.ListLemmas.{IsListFor, caller, driver, list_for}
-use Rattle.next_law.proofs.PlayLemmas.{count}
+use Rattle.sweep_law.proofs.next_law.ListLemmas.{IsListFor, caller, driver, list_for}
+use Rattle.sweep_law.proofs.next_law.PlayLemmas.{count}
 use Rattle.sweep_law.specs.SweepLaw.{listed_sweep}
 use Rattle.sweep_law.proofs.ListLemmas as sweep
 use Rattle.completion_law.specs.CompletionLaw.{AlwaysGoesOn, HasNoSweep, IsAtSweep}

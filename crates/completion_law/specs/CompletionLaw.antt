@@ -7,9 +7,9 @@ use Rattle.call_journal.specs.declared.plan.Listed.{Listed}
 use Rattle.session_lines.specs.declared.session.Session.{Session}
 use Rattle.session_plan.specs.PlanOfSession.{plan_of}
 use Rattle.session_plan.specs.ReadablePayloads.{is_response}
-use Rattle.xds_history.specs.Setting.{setting_of}
-use Rattle.xds_history.specs.Right.{Right}
-use Rattle.legal_history.specs.Legal.{Legal}
+use Rattle.reply_law.specs.xds_history.Setting.{setting_of}
+use Rattle.reply_law.specs.xds_history.Right.{Right}
+use Rattle.sweep_law.specs.legal_history.Legal.{Legal}
 use Rattle.session_shape.specs.SessionShape.{AreLines}
 use Rattle.book_progress.specs.ActorCounts.{count_of, with_ended}
 use Rattle.book_progress.specs.PlayedPlans.{IsListed, IsNextOf, IsPlanPlayed, Step, all_ended, driver}

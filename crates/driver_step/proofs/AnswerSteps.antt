@@ -9,22 +9,22 @@ use Rattle.call_journal.specs.declared.event.DriverEvent.{DriverEvent}
 use Rattle.call_journal.specs.declared.reply.DriverReply.{DriverReply}
 use Rattle.call_journal.specs.declared.entry.What.{What}
 use Rattle.call_journal.specs.declared.entry.Entry.{Entry}
-use Rattle.config_assembly.specs.Orders.{Name}
-use Rattle.config_assembly.specs.ReachedResources.{Resources, resources}
-use Rattle.config_assembly.specs.Reach.{missing}
-use Rattle.config_assembly.specs.WholeConfigs.{config_where, whole_config}
-use Rattle.dep_manager.specs.Laws.{IsSame}
-use Rattle.dep_manager.proofs.DecideLemmas.{fates_of_reached_keys_decide}
-use Rattle.xds_history.specs.Setting.{Setting, known_as, setting_of}
-use Rattle.xds_history.specs.Responses.{Came}
-use Rattle.xds_history.specs.declared.page.Page.{Page}
-use Rattle.xds_history.specs.declared.page.Watched.{Watched}
-use Rattle.xds_history.specs.Page.{config_now}
-use Rattle.xds_history.specs.Fates.{fate_in, watch}
-use Rattle.xds_history.specs.References.{references}
-use Rattle.xds_history.specs.Trees.{Present}
-use Rattle.xds_history.specs.Pages.{came, config_after, driven, driver_page, page_of, page_with_config, page_with_missing, page_with_reach, present_after}
-use Rattle.xds_history.specs.Right.{IsDriverReply}
+use Rattle.book_fates.specs.config_assembly.Orders.{Name}
+use Rattle.book_fates.specs.config_assembly.ReachedResources.{Resources, resources}
+use Rattle.book_fates.specs.config_assembly.Reach.{missing}
+use Rattle.book_fates.specs.config_assembly.WholeConfigs.{config_where, whole_config}
+use Rattle.book_fates.specs.dep_manager.Laws.{IsSame}
+use Rattle.book_fates.proofs.dep_manager.DecideLemmas.{fates_of_reached_keys_decide}
+use Rattle.book_fates.specs.xds_history.Setting.{Setting, known_as, setting_of}
+use Rattle.book_fates.specs.xds_history.Responses.{Came}
+use Rattle.book_fates.specs.xds_history.declared.page.Page.{Page}
+use Rattle.book_fates.specs.xds_history.declared.page.Watched.{Watched}
+use Rattle.book_fates.specs.xds_history.Page.{config_now}
+use Rattle.book_fates.specs.xds_history.Fates.{fate_in, watch}
+use Rattle.book_fates.specs.xds_history.References.{references}
+use Rattle.book_fates.specs.xds_history.Trees.{Present}
+use Rattle.book_fates.specs.xds_history.Pages.{came, config_after, driven, driver_page, page_of, page_with_config, page_with_missing, page_with_reach, present_after}
+use Rattle.book_fates.specs.xds_history.Right.{IsDriverReply}
 use Rattle.book_fates.specs.FateSteps.{Knows}
 use Rattle.driver_step.specs.DriverSteps.{Assembly, IsAssembly, IsAnswer, AnswersAreNext, CachesAssemble, made_or, marks_with, page_by}
 

@@ -6,8 +6,8 @@ use Rattle.std.specs.Cmp.{IsTotalOrder}
 use Rattle.std.specs.Ordering.{match_ordering, ordering_reverse}
 use Rattle.xc_keys.specs.Keys.{key_cmp}
 use Rattle.xc_keys.proofs.KeyLemmas.{key_total}
-use Rattle.config_assembly.specs.Orders.{put_in, sorted}
-use Rattle.config_assembly.specs.Reach.{keys_with, reached_clusters}
+use Rattle.book_fates.specs.config_assembly.Orders.{put_in, sorted}
+use Rattle.book_fates.specs.config_assembly.Reach.{keys_with, reached_clusters}
 use Rattle.driver_step.specs.DriverSteps.{ReachedKeysRise}
 
 module _ {X : Type 0} (order : X → X → Ordering) (total : IsTotalOrder order) where

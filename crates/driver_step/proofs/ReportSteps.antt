@@ -11,23 +11,23 @@ use Rattle.xc_keys.proofs.MemberLemmas.{here, there}
 use Rattle.call_journal.specs.declared.event.DriverEvent.{DriverEvent}
 use Rattle.call_journal.specs.declared.entry.What.{What}
 use Rattle.call_journal.specs.declared.entry.Entry.{Entry}
-use Rattle.config_assembly.specs.Orders.{Name}
-use Rattle.config_assembly.specs.Reach.{missing, reach}
-use Rattle.xds_history.specs.Setting.{known_as}
-use Rattle.xds_history.specs.declared.turns.Turn.{Turn}
-use Rattle.xds_history.specs.declared.turns.Turn.TheVariants.{Stays}
-use Rattle.xds_history.specs.Words.{among, same_authority, same_kind}
-use Rattle.xds_history.specs.Streams.{is_broken, is_up, sent_in, stream, turn_of, turned}
-use Rattle.xds_history.specs.Requests.{requests}
-use Rattle.xds_history.specs.declared.page.Page.{Page}
-use Rattle.xds_history.specs.declared.page.Watched.{Watched}
-use Rattle.xds_history.specs.Page.{config_now, watched_now}
-use Rattle.xds_history.specs.Fates.{fate_in, first_asked, is_asked_in, is_opening, watch}
-use Rattle.xds_history.specs.References.{references}
-use Rattle.xds_history.specs.Pages.{came, config_after, driven, page_of, pages, present_after}
-use Rattle.xds_history.specs.HistoryLaws.{is_report}
-use Rattle.xds_history.proofs.AskLemmas.{none_sent}
-use Rattle.xds_history.proofs.WatchLemmas.{none_turned, same_marks, unbroken}
+use Rattle.book_fates.specs.config_assembly.Orders.{Name}
+use Rattle.book_fates.specs.config_assembly.Reach.{missing, reach}
+use Rattle.book_fates.specs.xds_history.Setting.{known_as}
+use Rattle.book_fates.specs.xds_history.declared.turns.Turn.{Turn}
+use Rattle.book_fates.specs.xds_history.declared.turns.Turn.TheVariants.{Stays}
+use Rattle.book_fates.specs.xds_history.Words.{among, same_authority, same_kind}
+use Rattle.book_fates.specs.xds_history.Streams.{is_broken, is_up, sent_in, stream, turn_of, turned}
+use Rattle.book_fates.specs.xds_history.Requests.{requests}
+use Rattle.book_fates.specs.xds_history.declared.page.Page.{Page}
+use Rattle.book_fates.specs.xds_history.declared.page.Watched.{Watched}
+use Rattle.book_fates.specs.xds_history.Page.{config_now, watched_now}
+use Rattle.book_fates.specs.xds_history.Fates.{fate_in, first_asked, is_asked_in, is_opening, watch}
+use Rattle.book_fates.specs.xds_history.References.{references}
+use Rattle.book_fates.specs.xds_history.Pages.{came, config_after, driven, page_of, pages, present_after}
+use Rattle.book_fates.specs.xds_history.HistoryLaws.{is_report}
+use Rattle.book_fates.proofs.xds_history.AskLemmas.{none_sent}
+use Rattle.book_fates.proofs.xds_history.WatchLemmas.{none_turned, same_marks, unbroken}
 use Rattle.book_streams.specs.StreamsKept.{place_of, state_of}
 use Rattle.book_streams.specs.StreamsLaws.{is_about}
 use Rattle.book_streams.proofs.QuietLemmas.{quiet_stands}

@@ -3,22 +3,22 @@ use Rattle.std.proofs.Common.{◌≡◌, Option, Some, None, List, ◌∷◌, re
 use Rattle.xc_base.specs.declared.names.Key.{Key}
 use Rattle.xds_config.specs.declared.config.Config.{Config}
 use Rattle.call_journal.specs.declared.entry.What.{What}
-use Rattle.config_assembly.specs.Orders.{Name}
-use Rattle.config_assembly.specs.ReachedResources.{Resources}
-use Rattle.config_assembly.specs.Reach.{missing, reach}
-use Rattle.config_assembly.specs.WholeConfigs.{whole_config}
-use Rattle.dep_manager.specs.Laws.{IsSame}
-use Rattle.dep_manager.proofs.DecideLemmas.{fates_of_reached_keys_decide}
-use Rattle.xds_history.specs.Setting.{known_as}
-use Rattle.xds_history.specs.Requests.{requests}
-use Rattle.xds_history.specs.declared.page.Page.{Page}
-use Rattle.xds_history.specs.declared.page.Watched.{Watched}
-use Rattle.xds_history.specs.Page.{config_now, watched_now}
-use Rattle.xds_history.specs.Fates.{fate_in, watch}
-use Rattle.xds_history.specs.Pages.{came, config_after, driven, pages}
-use Rattle.xds_history.specs.References.{references}
-use Rattle.xds_history.proofs.AskLemmas.{asked_after, asked_still}
-use Rattle.xds_history.proofs.WatchLemmas.{same_fates, watch_twice}
+use Rattle.book_fates.specs.config_assembly.Orders.{Name}
+use Rattle.book_fates.specs.config_assembly.ReachedResources.{Resources}
+use Rattle.book_fates.specs.config_assembly.Reach.{missing, reach}
+use Rattle.book_fates.specs.config_assembly.WholeConfigs.{whole_config}
+use Rattle.book_fates.specs.dep_manager.Laws.{IsSame}
+use Rattle.book_fates.proofs.dep_manager.DecideLemmas.{fates_of_reached_keys_decide}
+use Rattle.book_fates.specs.xds_history.Setting.{known_as}
+use Rattle.book_fates.specs.xds_history.Requests.{requests}
+use Rattle.book_fates.specs.xds_history.declared.page.Page.{Page}
+use Rattle.book_fates.specs.xds_history.declared.page.Watched.{Watched}
+use Rattle.book_fates.specs.xds_history.Page.{config_now, watched_now}
+use Rattle.book_fates.specs.xds_history.Fates.{fate_in, watch}
+use Rattle.book_fates.specs.xds_history.Pages.{came, config_after, driven, pages}
+use Rattle.book_fates.specs.xds_history.References.{references}
+use Rattle.book_fates.proofs.xds_history.AskLemmas.{asked_after, asked_still}
+use Rattle.book_fates.proofs.xds_history.WatchLemmas.{same_fates, watch_twice}
 use Rattle.driver_step.specs.DriverSteps.{marks_with, watched_by}
 use Rattle.driver_step.specs.SettledKeys.{CallersLeaveSettled, DriversSettleKeys}
 use Rattle.driver_step.proofs.AnswerSteps.{page_by_is}

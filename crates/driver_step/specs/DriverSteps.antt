@@ -10,22 +10,22 @@ use Rattle.call_journal.specs.declared.reply.DriverReply.{DriverReply}
 use Rattle.call_journal.specs.declared.entry.What.{What}
 use Rattle.call_journal.specs.declared.entry.Entry.{Entry}
 use Rattle.xc_keys.specs.Keys.{key_cmp}
-use Rattle.config_assembly.specs.Orders.{Name, sorted}
-use Rattle.config_assembly.specs.ReachedResources.{Resources, resources}
-use Rattle.config_assembly.specs.Reach.{reach, missing}
-use Rattle.config_assembly.specs.WholeConfigs.{config_where}
-use Rattle.xds_history.specs.Setting.{Setting, known_as, setting_of}
-use Rattle.xds_history.specs.Responses.{Came, answered, stopped_at, verdict}
-use Rattle.xds_history.specs.Requests.{requests}
-use Rattle.xds_history.specs.declared.page.Page.{Page}
-use Rattle.xds_history.specs.declared.page.Watched.{Watched}
-use Rattle.xds_history.specs.declared.page.ClusterTrees.{ClusterTrees}
-use Rattle.xds_history.specs.Page.{config_now, latest, trees_now}
-use Rattle.xds_history.specs.Fates.{fate_in, marked, watch}
-use Rattle.xds_history.specs.References.{references}
-use Rattle.xds_history.specs.Trees.{trees_after}
-use Rattle.xds_history.specs.Pages.{came, config_after, driven, page_of, page_with_trees, present_after}
-use Rattle.xds_history.specs.Right.{IsDriverReply, IsNumber, standing}
+use Rattle.book_fates.specs.config_assembly.Orders.{Name, sorted}
+use Rattle.book_fates.specs.config_assembly.ReachedResources.{Resources, resources}
+use Rattle.book_fates.specs.config_assembly.Reach.{reach, missing}
+use Rattle.book_fates.specs.config_assembly.WholeConfigs.{config_where}
+use Rattle.book_fates.specs.xds_history.Setting.{Setting, known_as, setting_of}
+use Rattle.book_fates.specs.xds_history.Responses.{Came, answered, stopped_at, verdict}
+use Rattle.book_fates.specs.xds_history.Requests.{requests}
+use Rattle.book_fates.specs.xds_history.declared.page.Page.{Page}
+use Rattle.book_fates.specs.xds_history.declared.page.Watched.{Watched}
+use Rattle.book_fates.specs.xds_history.declared.page.ClusterTrees.{ClusterTrees}
+use Rattle.book_fates.specs.xds_history.Page.{config_now, latest, trees_now}
+use Rattle.book_fates.specs.xds_history.Fates.{fate_in, marked, watch}
+use Rattle.book_fates.specs.xds_history.References.{references}
+use Rattle.book_fates.specs.xds_history.Trees.{trees_after}
+use Rattle.book_fates.specs.xds_history.Pages.{came, config_after, driven, page_of, page_with_trees, present_after}
+use Rattle.book_fates.specs.xds_history.Right.{IsDriverReply, IsNumber, standing}
 use Rattle.book_fates.specs.FateSteps.{Knows}
 
 -- ---- what stands once something came

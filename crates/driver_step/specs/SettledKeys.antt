@@ -9,17 +9,17 @@ use Rattle.call_journal.specs.declared.event.CallerEvent.{CallerEvent}
 use Rattle.call_journal.specs.declared.reply.CallerReply.{CallerReply}
 use Rattle.call_journal.specs.declared.reply.DriverReply.{DriverReply}
 use Rattle.call_journal.specs.declared.entry.Entry.{Entry}
-use Rattle.config_assembly.specs.Orders.{Name}
-use Rattle.config_assembly.specs.ReachedResources.{Resources}
-use Rattle.config_assembly.specs.Reach.{reach, missing}
-use Rattle.xds_history.specs.Setting.{Setting, known_as}
-use Rattle.xds_history.specs.Requests.{requests}
-use Rattle.xds_history.specs.declared.page.Page.{Page}
-use Rattle.xds_history.specs.Page.{config_now, watched_now}
-use Rattle.xds_history.specs.Fates.{fate_in, watch}
-use Rattle.xds_history.specs.References.{references}
-use Rattle.xds_history.specs.Pages.{came, config_after, driven, pages}
-use Rattle.xds_history.specs.HistoryLaws.{is_report}
+use Rattle.book_fates.specs.config_assembly.Orders.{Name}
+use Rattle.book_fates.specs.config_assembly.ReachedResources.{Resources}
+use Rattle.book_fates.specs.config_assembly.Reach.{reach, missing}
+use Rattle.book_fates.specs.xds_history.Setting.{Setting, known_as}
+use Rattle.book_fates.specs.xds_history.Requests.{requests}
+use Rattle.book_fates.specs.xds_history.declared.page.Page.{Page}
+use Rattle.book_fates.specs.xds_history.Page.{config_now, watched_now}
+use Rattle.book_fates.specs.xds_history.Fates.{fate_in, watch}
+use Rattle.book_fates.specs.xds_history.References.{references}
+use Rattle.book_fates.specs.xds_history.Pages.{came, config_after, driven, pages}
+use Rattle.book_fates.specs.xds_history.HistoryLaws.{is_report}
 use Rattle.book_streams.specs.StreamsKept.{states_of}
 use Rattle.book_streams.specs.StreamsLaws.{IsSettled, caller_entry}
 use Rattle.book_fates.specs.declared.timed_fates.Fates.{Fates}

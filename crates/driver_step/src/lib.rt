@@ -4,3 +4,6 @@
 #![tactic(auto)]
 
 pub mod step_laws;
+
+pub use book_fates::{Answered, Fates};
+pub use book_streams::Streams;

@@ -7,10 +7,10 @@ use Rattle.call_journal.specs.declared.plan.Listed.{Listed}
 use Rattle.session_lines.specs.declared.session.Session.{Session}
 use Rattle.session_plan.specs.PlanOfSession.{plan_of}
 use Rattle.session_plan.specs.ReadablePayloads.{is_response}
-use Rattle.xds_history.specs.Setting.{Setting, setting_of}
-use Rattle.xds_history.specs.Responses.{refused_in}
-use Rattle.xds_history.specs.Right.{Right}
-use Rattle.legal_history.specs.Legal.{Legal}
+use Rattle.next_law.specs.xds_history.Setting.{Setting, setting_of}
+use Rattle.next_law.specs.xds_history.Responses.{refused_in}
+use Rattle.next_law.specs.xds_history.Right.{Right}
+use Rattle.next_law.specs.legal_history.Legal.{Legal}
 use Rattle.book_progress.specs.ActorCounts.{count_of}
 use Rattle.book_progress.specs.PlayedPlans.{IsNextOf, Step, step_in}
 

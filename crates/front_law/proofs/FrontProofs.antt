@@ -3,15 +3,15 @@ use Rattle.std.proofs.Common.{◌≡◌, ℕ, ◌+◌, List, [], ◌∷◌, ◌+
 use Rattle.std.specs.Option.{unwrap_or}
 use Rattle.xds_bootstrap.specs.declared.bootstrap.AuthorityEntry.{AuthorityEntry}
 use Rattle.call_journal.specs.declared.entry.Entry.{Entry}
-use Rattle.report_text.specs.EntryText.{entry_lines}
-use Rattle.report_text.specs.ReportLines.{Shown, end_line, entries_text, head_line, report_text}
-use Rattle.report_writer.specs.JournalReport as journal
-use Rattle.xds_history.specs.Setting.{Setting}
-use Rattle.xds_history.specs.Page.{latest_number}
-use Rattle.xds_history.specs.Pages.{page_of, pages}
-use Rattle.xds_history.specs.References.{snapshots_of}
-use Rattle.xds_history.specs.Right.{Right}
-use Rattle.legal_history.specs.Report as history_of
+use Rattle.report_law.specs.report_text.EntryText.{entry_lines}
+use Rattle.report_law.specs.report_text.ReportLines.{Shown, end_line, entries_text, head_line, report_text}
+use Rattle.report_law.specs.report_writer.JournalReport as journal
+use Rattle.report_law.specs.xds_history.Setting.{Setting}
+use Rattle.report_law.specs.xds_history.Page.{latest_number}
+use Rattle.report_law.specs.xds_history.Pages.{page_of, pages}
+use Rattle.report_law.specs.xds_history.References.{snapshots_of}
+use Rattle.report_law.specs.xds_history.Right.{Right}
+use Rattle.report_law.specs.legal_history.Report as history_of
 use Rattle.report_law.proofs.ShownLemmas.{same_shown}
 use Rattle.front_law.specs.FrontLaw.{FrontIsReported, IsFrontOf}
 use Rattle.front_law.proofs.Fronts.{front_behind, front_more, front_nothing}

@@ -2,12 +2,12 @@
 use Rattle.std.specs.Prelude.{◌≡◌, ℕ, List, ◌++◌}
 use Rattle.xds_bootstrap.specs.declared.bootstrap.AuthorityEntry.{AuthorityEntry}
 use Rattle.call_journal.specs.declared.entry.Entry.{Entry}
-use Rattle.report_writer.specs.JournalReport.{entries_report}
-use Rattle.xds_history.specs.Setting.{Setting}
-use Rattle.xds_history.specs.Pages.{pages}
-use Rattle.xds_history.specs.References.{snapshots_of}
-use Rattle.xds_history.specs.Right.{Right}
-use Rattle.legal_history.specs.Report.{report}
+use Rattle.report_law.specs.report_writer.JournalReport.{entries_report}
+use Rattle.report_law.specs.xds_history.Setting.{Setting}
+use Rattle.report_law.specs.xds_history.Pages.{pages}
+use Rattle.report_law.specs.xds_history.References.{snapshots_of}
+use Rattle.report_law.specs.xds_history.Right.{Right}
+use Rattle.report_law.specs.legal_history.Report.{report}
 
 -- a text begins with this one
 pub record IsFrontOf (front text : List ℕ) : Type 0 where

@@ -4,3 +4,4 @@
 pub mod front_laws;
 
 pub use front_laws::front_is_reported;
+pub use report_law::{one_report, write_report};

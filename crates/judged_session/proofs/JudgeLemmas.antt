@@ -9,19 +9,19 @@ use Rattle.call_journal.specs.declared.reply.DriverReply.{DriverReply}
 use Rattle.session_lines.specs.declared.session.Session.{Session}
 use Rattle.session_shape.specs.SessionShape.{AreLines}
 use Rattle.session_script.specs.Plan.{driver_event}
-use Rattle.xds_history.specs.Responses.{refused_in}
-use Rattle.xds_history.specs.Pages.{pages}
-use Rattle.xds_history.specs.Right.{IsReply}
-use Rattle.xds_history.specs.declared.page.Page.{Page}
-use Rattle.xds_history.specs.Setting.{Setting, setting_of}
-use Rattle.legal_history.specs.Legal.{Legal}
-use Rattle.next_law.proofs.NextProofs.{next_of_legal}
-use Rattle.entry_law.proofs.EntryProofs.{next_is_one}
-use Rattle.sweep_law.proofs.SweepProofs.{sweep_stands}
-use Rattle.text_law.specs.TextLaw.{text_of}
-use Rattle.report_compare.specs.declared.mistakes.Mistake.{Mistake}
-use Rattle.xds_book.specs.BookViews.{BookView}
-use Rattle.turn_player.specs.TurnPlans.{SeatView}
+use Rattle.report_replay.specs.xds_history.Responses.{refused_in}
+use Rattle.report_replay.specs.xds_history.Pages.{pages}
+use Rattle.report_replay.specs.xds_history.Right.{IsReply}
+use Rattle.report_replay.specs.xds_history.declared.page.Page.{Page}
+use Rattle.report_replay.specs.xds_history.Setting.{Setting, setting_of}
+use Rattle.report_replay.specs.legal_history.Legal.{Legal}
+use Rattle.closed_book.proofs.next_law.NextProofs.{next_of_legal}
+use Rattle.report_replay.proofs.entry_law.EntryProofs.{next_is_one}
+use Rattle.closed_book.proofs.sweep_law.SweepProofs.{sweep_stands}
+use Rattle.report_replay.specs.text_law.TextLaw.{text_of}
+use Rattle.report_replay.specs.report_compare.declared.mistakes.Mistake.{Mistake}
+use Rattle.report_replay.specs.xds_book.BookViews.{BookView}
+use Rattle.report_replay.specs.turn_player.TurnPlans.{SeatView}
 use Rattle.report_replay.specs.ReplayedTurns.{HasSwept}
 use Rattle.judged_session.specs.JudgedTurns.{IsWhole}
 

@@ -6,14 +6,14 @@ use Rattle.call_journal.specs.declared.plan.Listed.{Listed}
 use Rattle.xds_bootstrap.specs.declared.bootstrap.Bootstrap.{Bootstrap}
 use Rattle.xds_name.specs.declared.target.Target.{Target}
 use Rattle.session_lines.specs.declared.session.Session.{Session}
-use Rattle.completion_law.specs.CompletionLaw.{HasNoSweep}
-use Rattle.text_law.specs.TextLaw.{text_of}
-use Rattle.alike_law.specs.AlikeTexts.{Parting, PartsAt}
-use Rattle.report_compare.specs.declared.mistakes.Mistake.{Mistake}
-use Rattle.xds_book.specs.BookEntries.{first_lane}
-use Rattle.xds_book.specs.BookViews.{BookView, LaneView}
-use Rattle.turn_player.specs.TurnPlans.{SeatView}
-use Rattle.turn_player.specs.TableSeats.{free_seat}
+use Rattle.report_replay.specs.completion_law.CompletionLaw.{HasNoSweep}
+use Rattle.report_replay.specs.text_law.TextLaw.{text_of}
+use Rattle.report_replay.specs.alike_law.AlikeTexts.{Parting, PartsAt}
+use Rattle.report_replay.specs.report_compare.declared.mistakes.Mistake.{Mistake}
+use Rattle.report_replay.specs.xds_book.BookEntries.{first_lane}
+use Rattle.report_replay.specs.xds_book.BookViews.{BookView, LaneView}
+use Rattle.report_replay.specs.turn_player.TurnPlans.{SeatView}
+use Rattle.report_replay.specs.turn_player.TableSeats.{free_seat}
 use Rattle.report_replay.specs.ReplayedTurns.{HasNoneLeft, HasRead, HasReplayed, IsBeyond, IsLegalReplay, IsPlayedByAny, IsReplayed, ReplayView}
 use Rattle.report_replay.proofs.BeginLemmas.{begins}
 use Rattle.judged_session.specs.JudgedTurns.{IsFirst, IsWhole}

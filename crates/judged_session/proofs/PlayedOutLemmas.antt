@@ -14,39 +14,39 @@ use Rattle.xds_name.specs.declared.target.Target.{Target}
 use Rattle.session_lines.specs.declared.session.Session.{Session}
 use Rattle.session_plan.specs.PlanOfSession.{plan_of}
 use Rattle.session_plan.specs.ReadablePayloads.{is_response}
-use Rattle.session_player.specs.Stages.{IsOfSession}
-use Rattle.session_player.proofs.ScriptLemmas.{actors_of}
-use Rattle.xds_history.specs.Pages.{pages}
-use Rattle.xds_history.specs.References.{snapshots_of}
-use Rattle.xds_history.specs.Right.{Right}
+use Rattle.report_replay.specs.session_player.Stages.{IsOfSession}
+use Rattle.report_replay.proofs.session_player.ScriptLemmas.{actors_of}
+use Rattle.report_replay.specs.xds_history.Pages.{pages}
+use Rattle.report_replay.specs.xds_history.References.{snapshots_of}
+use Rattle.report_replay.specs.xds_history.Right.{Right}
 use Rattle.cluster_tree.specs.declared.snapshot.Snapshot.{Snapshot}
 use Rattle.snapshot_store.specs.Tickets.{values_of}
 use Rattle.boxcar.specs.Table.{Where}
-use Rattle.xds_history.specs.Setting.{Setting, setting_of}
+use Rattle.report_replay.specs.xds_history.Setting.{Setting, setting_of}
 use Rattle.book_progress.specs.ActorCounts.{count_of}
 use Rattle.book_progress.specs.PlayedPlans.{IsListed, IsPlanPlayed, IsPlayed, driver}
 use Rattle.book_progress.specs.ProgressKept.{most_entries}
 use Rattle.book_progress.proofs.TallyLemmas.{count_is}
-use Rattle.planned_calls.specs.PlannedCalls.{plan_entries}
-use Rattle.planned_calls.proofs.RoomProofs.{next_has_room}
-use Rattle.completion_law.specs.CompletionLaw.{BeginsLegal, GoesOn, HasNoSweep, IsAtSweep, IsLegalSoFar}
-use Rattle.completion_law.proofs.SweepNext.{always_goes_on}
-use Rattle.completion_law.proofs.CompletionProofs.{legal_so_far_begins_legal}
-use Rattle.text_law.specs.TextLaw.{text_of}
-use Rattle.front_law.specs.FrontLaw.{IsFrontOf}
-use Rattle.front_law.proofs.FrontProofs.{front_is_reported}
-use Rattle.front_law.proofs.Fronts.{front_of_front}
-use Rattle.report_writer.specs.JournalReport.{entries_report}
-use Rattle.legal_history.specs.Legal.{Legal}
-use Rattle.report_compare.specs.FirstLines.{first_lines}
-use Rattle.report_compare.specs.LegalReports.{BeginsReport}
-use Rattle.report_compare.specs.declared.mistakes.Mistake.{Mistake}
-use Rattle.xds_book.specs.BookEntries.{IsLaneOf, first_lane}
-use Rattle.xds_book.specs.BookKept.{HasActors}
-use Rattle.xds_book.specs.BookViews.{BookView, LaneView}
-use Rattle.channel_calls.specs.ChannelPlans.{HasChannelPlan}
-use Rattle.turn_player.specs.TurnPlans.{IsTurnPlan, SeatView}
-use Rattle.turn_player.specs.TableSeats.{AreSeated, HasNoLineLeft, IsSeatOf, free_seat}
+use Rattle.report_replay.specs.planned_calls.PlannedCalls.{plan_entries}
+use Rattle.report_replay.proofs.planned_calls.RoomProofs.{next_has_room}
+use Rattle.report_replay.specs.completion_law.CompletionLaw.{BeginsLegal, GoesOn, HasNoSweep, IsAtSweep, IsLegalSoFar}
+use Rattle.report_replay.proofs.completion_law.SweepNext.{always_goes_on}
+use Rattle.report_replay.proofs.completion_law.CompletionProofs.{legal_so_far_begins_legal}
+use Rattle.report_replay.specs.text_law.TextLaw.{text_of}
+use Rattle.report_replay.specs.front_law.FrontLaw.{IsFrontOf}
+use Rattle.report_replay.proofs.front_law.FrontProofs.{front_is_reported}
+use Rattle.report_replay.proofs.front_law.Fronts.{front_of_front}
+use Rattle.report_replay.specs.report_writer.JournalReport.{entries_report}
+use Rattle.report_replay.specs.legal_history.Legal.{Legal}
+use Rattle.report_replay.specs.report_compare.FirstLines.{first_lines}
+use Rattle.report_replay.specs.report_compare.LegalReports.{BeginsReport}
+use Rattle.report_replay.specs.report_compare.declared.mistakes.Mistake.{Mistake}
+use Rattle.report_replay.specs.xds_book.BookEntries.{IsLaneOf, first_lane}
+use Rattle.report_replay.specs.xds_book.BookKept.{HasActors}
+use Rattle.report_replay.specs.xds_book.BookViews.{BookView, LaneView}
+use Rattle.closed_book.specs.channel_calls.ChannelPlans.{HasChannelPlan}
+use Rattle.report_replay.specs.turn_player.TurnPlans.{IsTurnPlan, SeatView}
+use Rattle.report_replay.specs.turn_player.TableSeats.{AreSeated, HasNoLineLeft, IsSeatOf, free_seat}
 use Rattle.report_replay.specs.ReplayedTurns.{HasCome, HasNoneLeft, IsUnderWay}
 use Rattle.report_replay.proofs.BeginLemmas.{come_first}
 use Rattle.closed_book.specs.ReadyBooks.{IsCallerOf, IsReadyToClose}

@@ -8,11 +8,11 @@ use Rattle.session_lines.specs.declared.session.Session.{Session}
 use Rattle.session_plan.specs.PlanOfSession.{plan_of}
 use Rattle.session_plan.specs.ReadablePayloads.{is_response}
 use Rattle.book_progress.specs.ProgressKept.{most_entries}
-use Rattle.planned_calls.specs.PlannedCalls.{plan_entries}
-use Rattle.channel_calls.specs.ChannelPlans.{HasChannelPlan, IsChannelPlan}
-use Rattle.channel_plan.proofs.PlanProofs.{plan_is_for_a_channel}
-use Rattle.session_player.specs.Stages.{IsOfSession}
-use Rattle.turn_player.specs.TurnPlans.{IsTurnPlan}
+use Rattle.report_replay.specs.planned_calls.PlannedCalls.{plan_entries}
+use Rattle.closed_book.specs.channel_calls.ChannelPlans.{HasChannelPlan, IsChannelPlan}
+use Rattle.closed_book.proofs.channel_plan.PlanProofs.{plan_is_for_a_channel}
+use Rattle.report_replay.specs.session_player.Stages.{IsOfSession}
+use Rattle.report_replay.specs.turn_player.TurnPlans.{IsTurnPlan}
 
 within : (n room most : ℕ) → n ≤ room → room ≤ most → n ≤ most
 within n room most less more = omega (arith, less, more)

@@ -6,23 +6,23 @@ use Rattle.call_journal.specs.declared.entry.Entry.{Entry}
 use Rattle.session_lines.specs.Lines.{lines_of}
 use Rattle.session_lines.specs.declared.session.Session.{Session}
 use Rattle.session_shape.specs.SessionShape.{AreLines}
-use Rattle.xds_history.specs.Pages.{pages}
-use Rattle.xds_history.specs.References.{snapshots_of}
-use Rattle.xds_history.specs.Right.{Right}
-use Rattle.xds_history.specs.Setting.{Setting, setting_of}
-use Rattle.legal_history.specs.Legal.{Legal}
-use Rattle.report_writer.specs.JournalReport.{entries_report}
-use Rattle.text_law.specs.TextLaw.{text_of}
-use Rattle.turn_law.specs.TurnLaw.{IsTurn}
-use Rattle.turn_law.proofs.PlayedTurns.{legal_are_turns}
-use Rattle.front_law.specs.FrontLaw.{IsFrontOf}
-use Rattle.front_law.proofs.FrontProofs.{front_is_reported}
-use Rattle.alike_law.specs.AlikeTexts.{GoesAlike, Parting, PartsAt}
-use Rattle.alike_law.proofs.PartingProofs.{alike_parts}
-use Rattle.alike_law.proofs.FirstEntryProofs.{first_lines_stand, front_is_written}
-use Rattle.report_compare.specs.FirstLines.{first_lines}
-use Rattle.report_compare.specs.declared.mistakes.Mistake.{Mistake}
-use Rattle.xds_book.specs.BookViews.{BookView}
+use Rattle.report_replay.specs.xds_history.Pages.{pages}
+use Rattle.report_replay.specs.xds_history.References.{snapshots_of}
+use Rattle.report_replay.specs.xds_history.Right.{Right}
+use Rattle.report_replay.specs.xds_history.Setting.{Setting, setting_of}
+use Rattle.report_replay.specs.legal_history.Legal.{Legal}
+use Rattle.report_replay.specs.report_writer.JournalReport.{entries_report}
+use Rattle.report_replay.specs.text_law.TextLaw.{text_of}
+use Rattle.report_replay.specs.turn_law.TurnLaw.{IsTurn}
+use Rattle.report_replay.proofs.turn_law.PlayedTurns.{legal_are_turns}
+use Rattle.report_replay.specs.front_law.FrontLaw.{IsFrontOf}
+use Rattle.report_replay.proofs.front_law.FrontProofs.{front_is_reported}
+use Rattle.report_replay.specs.alike_law.AlikeTexts.{GoesAlike, Parting, PartsAt}
+use Rattle.report_replay.proofs.alike_law.PartingProofs.{alike_parts}
+use Rattle.report_replay.proofs.alike_law.FirstEntryProofs.{first_lines_stand, front_is_written}
+use Rattle.report_replay.specs.report_compare.FirstLines.{first_lines}
+use Rattle.report_replay.specs.report_compare.declared.mistakes.Mistake.{Mistake}
+use Rattle.report_replay.specs.xds_book.BookViews.{BookView}
 use Rattle.report_replay.specs.ReplayedTurns.{IsBeyond}
 use Rattle.report_replay.proofs.BeginLemmas.{some_lines, whole_report}
 use Rattle.report_replay.proofs.FoundLemmas.{not_beyond}

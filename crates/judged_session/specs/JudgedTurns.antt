@@ -4,14 +4,14 @@ use Rattle.call_journal.specs.declared.entry.Entry.{Entry}
 use Rattle.call_journal.specs.declared.plan.Listed.{Listed}
 use Rattle.session_lines.specs.Session.{session_of}
 use Rattle.session_lines.specs.declared.session.Session.{Session}
-use Rattle.alike_law.specs.AlikeTexts.{GoesAlike, Parting, PartsAt}
-use Rattle.legal_history.specs.Legal.{Legal}
-use Rattle.text_law.specs.TextLaw.{text_of}
-use Rattle.turn_law.specs.TurnLaw.{IsTurn}
-use Rattle.completion_law.specs.CompletionLaw.{HasNoSweep, IsAtSweep}
-use Rattle.xds_book.specs.BookEntries.{first_book}
-use Rattle.xds_book.specs.BookViews.{BookView, LaneView}
-use Rattle.turn_player.specs.TurnPlans.{SeatView}
+use Rattle.report_replay.specs.alike_law.AlikeTexts.{GoesAlike, Parting, PartsAt}
+use Rattle.report_replay.specs.legal_history.Legal.{Legal}
+use Rattle.report_replay.specs.text_law.TextLaw.{text_of}
+use Rattle.report_replay.specs.turn_law.TurnLaw.{IsTurn}
+use Rattle.report_replay.specs.completion_law.CompletionLaw.{HasNoSweep, IsAtSweep}
+use Rattle.report_replay.specs.xds_book.BookEntries.{first_book}
+use Rattle.report_replay.specs.xds_book.BookViews.{BookView, LaneView}
+use Rattle.report_replay.specs.turn_player.TurnPlans.{SeatView}
 use Rattle.report_replay.specs.ReplayedTurns.{HasSwept, IsBeyond, IsUnderWay}
 use Rattle.judged_session.specs.declared.played_reports.Outcome.{Outcome}
 use Rattle.judged_session.specs.declared.played_reports.Outcome.TheVariants as outcome

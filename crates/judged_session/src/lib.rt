@@ -7,4 +7,5 @@ pub mod session_judging;
 mod split_lanes;
 mod trials;
 
+pub use report_replay::Mistake;
 pub use session_judging::judge_session;

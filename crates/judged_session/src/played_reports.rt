@@ -3,23 +3,20 @@ ghost use Rattle.std.specs.Prelude.{◌≡◌, ◌<◌, ◌+◌, ℕ, List, leng
 ghost use Rattle.std.specs.List.{range_with_len};
 ghost use Rattle.call_journal.specs.declared.entry.Entry.{Entry as EntryValue};
 ghost use Rattle.session_lines.specs.declared.session.Session.{Session as SessionValue};
-ghost use Rattle.text_law.specs.TextLaw.{text_of};
-ghost use Rattle.alike_law.specs.AlikeTexts.{PartsAt};
-ghost use Rattle.xds_book.specs.BookEntries.{first_lane};
-ghost use Rattle.session_player.specs.Stages.{IsOfSession};
-ghost use Rattle.turn_player.specs.TurnPlans.{IsTurnPlan};
+ghost use Rattle.report_replay.specs.text_law.TextLaw.{text_of};
+ghost use Rattle.report_replay.specs.alike_law.AlikeTexts.{PartsAt};
+ghost use Rattle.report_replay.specs.xds_book.BookEntries.{first_lane};
+ghost use Rattle.report_replay.specs.session_player.Stages.{IsOfSession};
+ghost use Rattle.report_replay.specs.turn_player.TurnPlans.{IsTurnPlan};
 ghost use Rattle.report_replay.specs.ReplayedTurns.{IsLegalReplay};
 ghost use Rattle.judged_session.specs.JudgedTurns.{IsAnyOutcome, IsBesideOutcome, IsFirst};
 
 use crate::trials::Trial;
 use header_match::Patterns;
-use report_compare::Mistake;
-use report_replay::Replay;
+use report_replay::{Book, Job, Lane, Mistake, Replay, Table};
 use std::sync::Wait;
 use std::sync::ledger::{Blank, Ledger};
-use turn_player::Table;
 use xc_base::{List, Memory, Steps};
-use xds_book::{Book, Job, Lane};
 
 /// What came of the turns of a report.
 #[derive(Drop)]

@@ -1,18 +1,18 @@
 //! The Book of a session.
 ghost use Rattle.std.specs.Prelude.{◌≡◌, ◌+◌, map, IfOk};
 ghost use Rattle.std.specs.List.{range_with_len};
-ghost use Rattle.session_player.specs.Stages.{IsOfSession};
-ghost use Rattle.xds_book.specs.BookEntries.{first_lane};
+ghost use Rattle.report_replay.specs.session_player.Stages.{IsOfSession};
+ghost use Rattle.report_replay.specs.xds_book.BookEntries.{first_lane};
 ghost use Rattle.judged_session.specs.JudgedTurns.{IsFirst};
 
 use call_journal::Plan;
 use cluster_tree::Snapshot;
+use report_replay::{Book, Job, Lane};
 use session_lines::Session;
 use session_script::room;
 use snapshot_store::Archive;
 use std::alloc::Global;
 use xc_base::{List, Memory, Shared};
-use xds_book::{Book, Job, Lane};
 
 /// A Book in which nothing was done, on which a session can be played by its plan, with a lane for the driver and for each
 /// caller. It fails for want of memory alone.

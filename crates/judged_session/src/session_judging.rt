@@ -2,16 +2,16 @@
 ghost use Rattle.std.specs.Prelude.{◌≡◌, ◌⊎◌, ◌<◌, ◌-◌, ℕ, List, All, IfOk, IfSome, None, Ok};
 ghost use Rattle.session_lines.specs.Session.{session_of};
 ghost use Rattle.call_journal.specs.declared.entry.Entry.{Entry as EntryValue};
-ghost use Rattle.legal_history.specs.Legal.{Legal};
-ghost use Rattle.text_law.specs.TextLaw.{text_of};
-ghost use Rattle.turn_law.specs.TurnLaw.{IsTurn};
+ghost use Rattle.report_replay.specs.legal_history.Legal.{Legal};
+ghost use Rattle.report_replay.specs.text_law.TextLaw.{text_of};
+ghost use Rattle.report_replay.specs.turn_law.TurnLaw.{IsTurn};
 ghost use Rattle.session_plan.specs.PlanOfSession.{plan_of};
 ghost use Rattle.session_plan.specs.ReadablePayloads.{is_response};
-ghost use Rattle.completion_law.specs.CompletionLaw.{HasNoSweep};
+ghost use Rattle.report_replay.specs.completion_law.CompletionLaw.{HasNoSweep};
 ghost use Rattle.report_replay.specs.ReplayedTurns.{IsBeyond};
-ghost use Rattle.report_compare.specs.FirstLines.{first_lines};
-ghost use Rattle.report_compare.specs.LegalReports.{BeginsReport, IsReportOf};
-ghost use Rattle.session_player.specs.Stages.{IsOfSession};
+ghost use Rattle.report_replay.specs.report_compare.FirstLines.{first_lines};
+ghost use Rattle.report_replay.specs.report_compare.LegalReports.{BeginsReport, IsReportOf};
+ghost use Rattle.report_replay.specs.session_player.Stages.{IsOfSession};
 ghost use Rattle.session_shape.specs.SessionShape.{IsWellFormed};
 ghost use Rattle.judged_session.specs.JudgedTurns.{IsAllPlayed, IsApart, IsWhole, IsWrongAt, IsWrongFor};
 
@@ -22,7 +22,7 @@ use crate::trials::Trial;
 use closed_book::{ClosedBook, Stop};
 use cluster_tree::Snapshot;
 use header_match::Patterns;
-use report_compare::{Mistake, PlayedPart, compare, compare_until};
+use report_replay::{Book, Job, Lane, Mistake, PlayedPart, compare, compare_until};
 use session_lines::Session;
 use session_plan::plan_session;
 use snapshot_store::Archive;
@@ -31,7 +31,6 @@ use std::marker::Brand;
 use std::sync::Wait;
 use std::sync::ledger::{Blank, Ledger};
 use xc_base::{List, Memory, Shared};
-use xds_book::{Book, Job, Lane};
 
 /// The mistake of a report whose turns don't play all that is listed, where this Book was played.
 fn judge_stopped<J: Job>(

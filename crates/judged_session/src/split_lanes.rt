@@ -1,9 +1,9 @@
 //! The lanes of a Book's actors, the driver's apart.
 ghost use Rattle.std.specs.Prelude.{◌≡◌, ◌≢◌, ◌∷◌, []};
-ghost use Rattle.xds_book.specs.BookViews.{LaneView};
+ghost use Rattle.report_replay.specs.xds_book.BookViews.{LaneView};
 
+use report_replay::{Job, Lane};
 use xc_base::List;
-use xds_book::{Job, Lane};
 
 /// The lanes of a Book's actors, the driver's apart.
 #[derive(Drop)]

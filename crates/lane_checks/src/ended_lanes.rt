@@ -2,7 +2,7 @@
 ghost use Rattle.std.specs.Prelude.{◌≡◌, ◌<◌, ◌≤◌, ◌^◌, ◌↔◌, length, All, IsTrue, Some, slice_get};
 ghost use Rattle.lane_checks.specs.EndedPlans.{HaveEndedTo, all_ended};
 ghost use Rattle.xds_book.specs.BookEntries.{IsLaneOf};
-ghost use Rattle.xds_history.specs.Responses.{refused_texts};
+ghost use Rattle.xds_book.specs.xds_history.Responses.{refused_texts};
 
 use call_journal::{Listed, Plan};
 use xc_base::List;

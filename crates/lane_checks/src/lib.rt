@@ -9,3 +9,4 @@ pub mod next_events;
 pub use ended_lanes::have_played_all;
 pub use lane_gates::{Difference, GatedLine, find_difference, has_to_wait};
 pub use next_events::{is_last_sweep, next_listed};
+pub use xds_book::{Book, BookFault, Job, Lane, Pinned};

@@ -2,11 +2,11 @@
 -- after its gate (this project's own).
 use Rattle.std.specs.Prelude.{◌≡◌, ℕ, ◌==◌, List, [], ◌∷◌, reverse, Bool, true, false, ◌&&◌, Option, Some, None, IsTrue, is_some, option_and_then}
 use Rattle.std.specs.List.{find, list_any}
-use Rattle.call_journal.specs.declared.event.DriverEvent.{DriverEvent}
-use Rattle.call_journal.specs.declared.event.CallerEvent.{CallerEvent}
-use Rattle.call_journal.specs.declared.reply.CallerReply.{CallerReply}
-use Rattle.call_journal.specs.declared.entry.What.{What}
-use Rattle.call_journal.specs.declared.entry.Entry.{Entry}
+use Rattle.xds_history.specs.call_journal.declared.event.DriverEvent.{DriverEvent}
+use Rattle.xds_history.specs.call_journal.declared.event.CallerEvent.{CallerEvent}
+use Rattle.xds_history.specs.call_journal.declared.reply.CallerReply.{CallerReply}
+use Rattle.xds_history.specs.call_journal.declared.entry.What.{What}
+use Rattle.xds_history.specs.call_journal.declared.entry.Entry.{Entry}
 use Rattle.session_lines.specs.declared.session.Line.{Line}
 use Rattle.session_lines.specs.declared.session.Session.{Session}
 use Rattle.session_script.specs.Plan.{AreListed, entries_by, entry_event, last_sweep, listed_event}

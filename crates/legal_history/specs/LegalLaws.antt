@@ -1,6 +1,6 @@
 -- How long legal histories are.
 use Rattle.std.specs.Prelude.{ℕ, ◌≤◌, List, length}
-use Rattle.call_journal.specs.declared.entry.Entry.{Entry}
+use Rattle.xds_history.specs.call_journal.declared.entry.Entry.{Entry}
 use Rattle.session_lines.specs.declared.session.Session.{Session}
 use Rattle.session_script.specs.ScriptLaws.{HasRoom}
 use Rattle.legal_history.specs.Legal.{Legal}

@@ -2,13 +2,13 @@
 -- call holds.
 use Rattle.std.specs.Prelude.{ℕ, List, [], ◌∷◌, ◌++◌, Option, Some, None, option_and_then, unwrap_or}
 use Rattle.xds_bootstrap.specs.declared.bootstrap.AuthorityEntry.{AuthorityEntry}
-use Rattle.cluster_tree.specs.declared.snapshot.Snapshot.{Snapshot}
-use Rattle.call_journal.specs.declared.event.CallerEvent.{CallerEvent}
-use Rattle.call_journal.specs.declared.reply.CallerReply.{CallerReply}
-use Rattle.call_journal.specs.declared.entry.What.{What}
-use Rattle.call_journal.specs.declared.entry.Entry.{Entry}
+use Rattle.xds_history.specs.cluster_tree.declared.snapshot.Snapshot.{Snapshot}
+use Rattle.xds_history.specs.call_journal.declared.event.CallerEvent.{CallerEvent}
+use Rattle.xds_history.specs.call_journal.declared.reply.CallerReply.{CallerReply}
+use Rattle.xds_history.specs.call_journal.declared.entry.What.{What}
+use Rattle.xds_history.specs.call_journal.declared.entry.Entry.{Entry}
 use Rattle.report_text.specs.ReportLines.{Shown, report_text}
-use Rattle.config_assembly.specs.Orders.{Name}
+use Rattle.xds_history.specs.config_assembly.Orders.{Name}
 use Rattle.xds_history.specs.Setting.{Setting}
 use Rattle.xds_history.specs.declared.page.Page.{Page}
 use Rattle.xds_history.specs.Page.{latest_number}

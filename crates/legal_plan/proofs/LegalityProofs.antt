@@ -8,7 +8,7 @@ use Rattle.std.proofs.lemmas.List.Elements.{All-head, All-tail}
 use Rattle.std.proofs.lemmas.Option.{slice_get-get_or}
 use Rattle.call_journal.specs.declared.entry.Entry.{Entry}
 use Rattle.call_journal.specs.declared.plan.Listed.{Listed}
-use Rattle.session_script.specs.Plan.{entries_by}
+use Rattle.legal_history.specs.session_script.Plan.{entries_by}
 use Rattle.session_lines.specs.declared.session.Session.{Session}
 use Rattle.session_plan.specs.PlanLaws.{HaveEnded}
 use Rattle.session_plan.specs.PlanOfSession.{plan_of}

@@ -8,7 +8,7 @@ use Rattle.call_journal.specs.declared.plan.Listed.{Listed}
 use Rattle.call_journal.specs.declared.plan.ListedEvent.{ListedEvent}
 use Rattle.call_journal.specs.declared.plan.ListedEvent.TheVariants as listed
 use Rattle.xc_base.specs.declared.call.Call.{Call}
-use Rattle.session_script.specs.Plan.{caller_event, driver_event}
+use Rattle.legal_history.specs.session_script.Plan.{caller_event, driver_event}
 use Rattle.legal_history.specs.Legal.{AreStarted, IsStarted, begins_with_hold, is_hold, is_pinned}
 use Rattle.session_plan.specs.PlayedEvents.{IsOne, IsPin, IsHold, Plays, got_snapshot, is_snapshot}
 use Rattle.session_plan.specs.PlayedEvents as played

@@ -7,8 +7,8 @@ use Rattle.session_plan.specs.PlanLaws.{HaveEnded}
 use Rattle.session_plan.specs.PlanOfSession.{plan_of}
 use Rattle.session_plan.specs.PlayedEvents.{Plays}
 use Rattle.session_plan.specs.ReadablePayloads.{is_response}
-use Rattle.xds_history.specs.Right.{Right}
-use Rattle.xds_history.specs.Setting.{setting_of}
+use Rattle.legal_history.specs.xds_history.Right.{Right}
+use Rattle.legal_history.specs.xds_history.Setting.{setting_of}
 use Rattle.legal_history.specs.Legal.{AreOpen, AreStarted, EndsInSweep, Legal}
 
 abbrev pub PlaysAreStarted : Type 0

@@ -1,13 +1,13 @@
 -- The patterns that stand behind an entry's first line are texts, so they are read back from their lines.
 use Rattle.std.proofs.Common.{◌≡◌, ℕ, List, ◌∷◌, All, Some, ap, ◌∙◌}
 use Rattle.std.specs.Str.{IsUtf8}
-use Rattle.xds_history.specs.Setting.{Setting, setting_of}
-use Rattle.xds_history.specs.Responses.{refused_in}
-use Rattle.xds_history.specs.Right.{Right}
-use Rattle.xds_history.proofs.KeepProofs.{right_past}
+use Rattle.turn_law.specs.xds_history.Setting.{Setting, setting_of}
+use Rattle.turn_law.specs.xds_history.Responses.{refused_in}
+use Rattle.turn_law.specs.xds_history.Right.{Right}
+use Rattle.turn_law.proofs.xds_history.KeepProofs.{right_past}
 use Rattle.listed_patterns.specs.ListedPatterns.{listed_from, listed_in}
 use Rattle.listed_patterns.proofs.ListedProofs.{listed_of_lines}
-use Rattle.text_law.proofs.RefusedLemmas.{refused_are_texts}
+use Rattle.turn_law.proofs.text_law.RefusedLemmas.{refused_are_texts}
 use Rattle.turn_law.specs.LinesBehind.{ListsPatterns, lines_behind}
 use Rattle.turn_law.proofs.ListedLemmas.{patterns_listed}
 use Rattle.listed_law.specs.ListedLaw.{ListedOfLegal}

@@ -3,9 +3,9 @@
 use Rattle.std.specs.Prelude.{◌≡◌, List, ◌∷◌, ◌++◌, Some}
 use Rattle.call_journal.specs.declared.entry.Entry.{Entry}
 use Rattle.session_lines.specs.declared.session.Session.{Session}
-use Rattle.xds_history.specs.Setting.{setting_of}
-use Rattle.xds_history.specs.Responses.{refused_in}
-use Rattle.legal_history.specs.Legal.{Legal}
+use Rattle.turn_law.specs.xds_history.Setting.{setting_of}
+use Rattle.turn_law.specs.xds_history.Responses.{refused_in}
+use Rattle.turn_law.specs.legal_history.Legal.{Legal}
 use Rattle.listed_patterns.specs.ListedPatterns.{listed_from}
 use Rattle.turn_law.specs.LinesBehind.{lines_behind}
 

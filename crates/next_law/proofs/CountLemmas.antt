@@ -9,8 +9,8 @@ use Rattle.call_journal.specs.declared.entry.Entry.{Entry}
 use Rattle.call_journal.specs.declared.plan.Count.{Count}
 use Rattle.call_journal.specs.declared.plan.ListedEvent.{ListedEvent}
 use Rattle.session_script.specs.Plan.{entries_by}
-use Rattle.session_plan.specs.PlayedEvents.{IsHold, IsOne, IsPin, is_snapshot}
-use Rattle.session_plan.proofs.LawProofs.{by_reverse}
+use Rattle.legal_plan.specs.session_plan.PlayedEvents.{IsHold, IsOne, IsPin, is_snapshot}
+use Rattle.legal_plan.proofs.session_plan.LawProofs.{by_reverse}
 use Rattle.book_progress.specs.ActorCounts.{count_after, count_of, count_pinned, no_count, with_ended, with_pin, without_pin}
 use Rattle.book_progress.specs.PlayedPlans.{IsCallStep, IsStep, step_in}
 

@@ -18,9 +18,9 @@ use Rattle.session_lines.specs.declared.session.Session.{Session}
 use Rattle.session_lines.specs.declared.session.Work.{Work}
 use Rattle.session_lines.specs.declared.session.Work.TheVariants as work
 use Rattle.session_script.specs.Plan.{driver_event, entries_by, lines_by}
-use Rattle.session_plan.specs.PlanOfSession.{act_event, events_in, events_on, plan_of}
-use Rattle.session_plan.specs.ReadablePayloads.{is_response}
-use Rattle.legal_history.specs.Legal.{Legal}
+use Rattle.legal_plan.specs.session_plan.PlanOfSession.{act_event, events_in, events_on, plan_of}
+use Rattle.legal_plan.specs.session_plan.ReadablePayloads.{is_response}
+use Rattle.legal_plan.specs.legal_history.Legal.{Legal}
 use Rattle.book_progress.specs.ActorCounts.{count_after, count_of, with_ended}
 use Rattle.book_progress.specs.PlayedPlans.{IsStep, all_ended, step_in}
 use Rattle.next_law.specs.NextLaw.{EndOfLegal}

@@ -18,11 +18,11 @@ use Rattle.session_lines.specs.declared.session.Session.{Session}
 use Rattle.session_lines.specs.declared.session.Work.{Work}
 use Rattle.session_lines.specs.declared.session.Work.TheVariants as work
 use Rattle.session_script.specs.Plan.{Streams, driver_list, is_of_caller, last_sweep, lines_by, listed_for, none_up, work_events, work_streams}
-use Rattle.session_plan.specs.PlanOfSession.{events_in, events_on, plan_item}
-use Rattle.session_plan.specs.ReadablePayloads.{is_response}
-use Rattle.session_plan.proofs.DriverLemmas.{list_end, list_more}
-use Rattle.legal_history.specs.Legal as legal
-use Rattle.legal_history.specs.Legal.{AreOpen, gate_of}
+use Rattle.legal_plan.specs.session_plan.PlanOfSession.{events_in, events_on, plan_item}
+use Rattle.legal_plan.specs.session_plan.ReadablePayloads.{is_response}
+use Rattle.legal_plan.proofs.session_plan.DriverLemmas.{list_end, list_more}
+use Rattle.legal_plan.specs.legal_history.Legal as legal
+use Rattle.legal_plan.specs.legal_history.Legal.{AreOpen, gate_of}
 use Rattle.session_shape.specs.SessionShape.{AreLines}
 use Rattle.book_progress.specs.EndedLines.{IsOpen, ends_line, has_ended}
 use Rattle.next_law.proofs.ListLemmas.{IsListFor, caller, driver}

@@ -4,3 +4,5 @@ pub mod ListLemmas
 pub mod GateLemmas
 pub mod NextProofs
 pub mod EndProofs
+pub use Rattle.legal_plan.proofs as legal_plan
+pub use Rattle.legal_plan.proofs.xds_history as xds_history

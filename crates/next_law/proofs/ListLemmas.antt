@@ -20,12 +20,12 @@ use Rattle.session_lines.specs.declared.session.Work.{Work}
 use Rattle.session_lines.specs.declared.session.Work.TheVariants as work
 use Rattle.session_script.specs.Plan as plan
 use Rattle.session_script.specs.Plan.{ActEvents, AreListed, ArePlayed, WorkEvents, caller_event, driver_list, entries_by, entry_event, lines_by, listed_event, none_up}
-use Rattle.session_plan.specs.PlanOfSession.{act_event, caller_plan, driver_plan, events_in, events_on, plan_item, plan_of}
-use Rattle.session_plan.specs.PlayedEvents.{IsOne, IsPin, IsHold, Plays, got_snapshot, is_snapshot}
-use Rattle.session_plan.specs.PlayedEvents as played
-use Rattle.session_plan.specs.ReadablePayloads.{is_response}
-use Rattle.session_plan.proofs.LawProofs.{caller_at}
-use Rattle.legal_history.specs.Legal.{AreStarted, IsStarted, begins_with_hold, is_hold, is_pinned}
+use Rattle.legal_plan.specs.session_plan.PlanOfSession.{act_event, caller_plan, driver_plan, events_in, events_on, plan_item, plan_of}
+use Rattle.legal_plan.specs.session_plan.PlayedEvents.{IsOne, IsPin, IsHold, Plays, got_snapshot, is_snapshot}
+use Rattle.legal_plan.specs.session_plan.PlayedEvents as played
+use Rattle.legal_plan.specs.session_plan.ReadablePayloads.{is_response}
+use Rattle.legal_plan.proofs.session_plan.LawProofs.{caller_at}
+use Rattle.legal_plan.specs.legal_history.Legal.{AreStarted, IsStarted, begins_with_hold, is_hold, is_pinned}
 use Rattle.legal_plan.proofs.LegalityProofs.{plays_are_started}
 
 -- ---- the driver

@@ -10,10 +10,10 @@ use Rattle.call_journal.specs.declared.plan.Count.{Count}
 use Rattle.call_journal.specs.declared.plan.Listed.{Listed}
 use Rattle.session_lines.specs.declared.session.Session.{Session}
 use Rattle.session_script.specs.Plan.{entries_by}
-use Rattle.session_plan.specs.PlanOfSession.{plan_of}
-use Rattle.session_plan.specs.ReadablePayloads.{is_response}
-use Rattle.legal_history.specs.Legal as legal
-use Rattle.legal_history.specs.Legal.{Legal, gate_of}
+use Rattle.legal_plan.specs.session_plan.PlanOfSession.{plan_of}
+use Rattle.legal_plan.specs.session_plan.ReadablePayloads.{is_response}
+use Rattle.legal_plan.specs.legal_history.Legal as legal
+use Rattle.legal_plan.specs.legal_history.Legal.{Legal, gate_of}
 use Rattle.book_progress.specs.ActorCounts.{count_of}
 use Rattle.next_law.specs.NextLaw.{NextOfLegal}
 use Rattle.next_law.proofs.CountLemmas.{count_is}

@@ -4,8 +4,8 @@ use Rattle.std.specs.List.{slice_get}
 use Rattle.call_journal.specs.declared.entry.Entry.{Entry}
 use Rattle.call_journal.specs.declared.plan.Count.{Count}
 use Rattle.call_journal.specs.declared.plan.Listed.{Listed}
-use Rattle.session_plan.specs.PlayedEvents.{IsHold, IsOne, IsPin, Plays}
-use Rattle.session_plan.specs.PlayedEvents as played
+use Rattle.legal_plan.specs.session_plan.PlayedEvents.{IsHold, IsOne, IsPin, Plays}
+use Rattle.legal_plan.specs.session_plan.PlayedEvents as played
 use Rattle.book_progress.specs.ActorCounts.{count_after}
 use Rattle.book_progress.specs.PlayedPlans.{IsStep, step_in}
 use Rattle.next_law.proofs.CountLemmas.{counted, hold_counts, hold_step, one_counts, one_step, pin_counts, pin_step}

@@ -4,9 +4,9 @@ use Rattle.std.specs.Prelude.{◌≡◌, ℕ, ◌≤◌, List, [], ◌∷◌, �
 use Rattle.call_journal.specs.declared.entry.Entry.{Entry}
 use Rattle.call_journal.specs.declared.plan.Listed.{Listed}
 use Rattle.session_lines.specs.declared.session.Session.{Session}
-use Rattle.session_plan.specs.PlanOfSession.{plan_of}
-use Rattle.session_plan.specs.ReadablePayloads.{is_response}
-use Rattle.legal_history.specs.Legal.{Legal}
+use Rattle.legal_plan.specs.session_plan.PlanOfSession.{plan_of}
+use Rattle.legal_plan.specs.session_plan.ReadablePayloads.{is_response}
+use Rattle.legal_plan.specs.legal_history.Legal.{Legal}
 use Rattle.session_shape.specs.SessionShape.{AreLines}
 use Rattle.book_progress.specs.ActorCounts.{count_of, with_ended}
 use Rattle.book_progress.specs.PlayedPlans.{IsNextOf, all_ended, step_in}

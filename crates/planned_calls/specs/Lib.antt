@@ -1,1 +1,2 @@
 pub mod PlannedCalls
+pub use Rattle.xds_history.specs as xds_history

@@ -18,12 +18,12 @@ use Rattle.call_journal.specs.declared.entry.What.{What}
 use Rattle.call_journal.specs.declared.entry.Entry.{Entry}
 use Rattle.xds_bootstrap.specs.declared.bootstrap.Bootstrap.{Bootstrap}
 use Rattle.xds_name.specs.declared.target.Target.{Target}
-use Rattle.xds_history.specs.Setting.{Setting, setting_of}
-use Rattle.xds_history.specs.Streams.{is_up}
-use Rattle.xds_history.specs.Responses.{answered, answered_kind, is_asked, parts, refused_in, stopped_at, told_by, verdict, verdict_on_kind, verdict_on_parts, verdict_on_reading}
-use Rattle.xds_history.specs.Pages.{came, pages}
-use Rattle.xds_history.specs.Right.{IsReply}
-use Rattle.listed_patterns.specs.ListedPatterns.{listed_in}
+use Rattle.entry_law.specs.xds_history.Setting.{Setting, setting_of}
+use Rattle.entry_law.specs.xds_history.Streams.{is_up}
+use Rattle.entry_law.specs.xds_history.Responses.{answered, answered_kind, is_asked, parts, refused_in, stopped_at, told_by, verdict, verdict_on_kind, verdict_on_parts, verdict_on_reading}
+use Rattle.entry_law.specs.xds_history.Pages.{came, pages}
+use Rattle.entry_law.specs.xds_history.Right.{IsReply}
+use Rattle.listed_events.specs.listed_patterns.ListedPatterns.{listed_in}
 use Rattle.listed_check.specs.ListedAnswers.{refuses}
 use Rattle.book_progress.specs.PlayedPlans.{step_in}
 use Rattle.replay_law.specs.ReplayLaw.{RefusesAsListed}

@@ -14,8 +14,8 @@ use Rattle.session_plan.specs.PlayedEvents as events
 use Rattle.book_progress.specs.ActorCounts.{actor_entries, count_after, count_of, no_count}
 use Rattle.book_progress.specs.PlayedPlans as played
 use Rattle.book_progress.specs.PlayedPlans.{HasPlayed, IsGated, IsListed, IsNextOf, IsPlanPlayed, IsStep, step_in}
-use Rattle.next_law.proofs.CountLemmas.{hold_counts, hold_step, one_counts, one_step, pin_counts, pin_step}
-use Rattle.next_law.proofs.PlayLemmas.{IsNextIn, count}
+use Rattle.entry_law.proofs.next_law.CountLemmas.{hold_counts, hold_step, one_counts, one_step, pin_counts, pin_step}
+use Rattle.entry_law.proofs.next_law.PlayLemmas.{IsNextIn, count}
 
 -- ---- the two words for the entries of a listed event
 

@@ -5,14 +5,14 @@ use Rattle.call_journal.specs.declared.plan.Count.{Count}
 use Rattle.call_journal.specs.declared.plan.Listed.{Listed}
 use Rattle.session_plan.specs.PlanOfSession.{plan_of}
 use Rattle.session_plan.specs.ReadablePayloads.{is_response}
-use Rattle.xds_history.specs.Setting.{Setting, setting_of}
-use Rattle.xds_history.specs.Responses.{refused_in}
-use Rattle.xds_history.specs.Right.{Right}
-use Rattle.xds_history.proofs.KeepProofs.{right_past}
+use Rattle.entry_law.specs.xds_history.Setting.{Setting, setting_of}
+use Rattle.entry_law.specs.xds_history.Responses.{refused_in}
+use Rattle.entry_law.specs.xds_history.Right.{Right}
+use Rattle.entry_law.proofs.xds_history.KeepProofs.{right_past}
 use Rattle.book_progress.specs.ActorCounts.{count_of}
 use Rattle.book_progress.specs.PlayedPlans.{IsNextOf, step_in}
-use Rattle.next_law.proofs.NextProofs.{own_next}
-use Rattle.next_law.proofs.PlayLemmas.{IsNextIn}
+use Rattle.entry_law.proofs.next_law.NextProofs.{own_next}
+use Rattle.entry_law.proofs.next_law.PlayLemmas.{IsNextIn}
 use Rattle.entry_law.proofs.EntryProofs.{one_entry}
 use Rattle.entry_law.proofs.StepProofs.{next_alike}
 use Rattle.replay_law.specs.ReplayLaw.{ReplayedIsOne}

@@ -7,12 +7,12 @@ use Rattle.call_journal.specs.declared.entry.What.{What}
 use Rattle.session_lines.specs.declared.session.Session.{Session}
 use Rattle.session_plan.specs.PlanOfSession.{plan_of}
 use Rattle.session_plan.specs.ReadablePayloads.{is_response}
-use Rattle.xds_history.specs.Setting.{setting_of}
-use Rattle.xds_history.specs.Responses.{answered_kind, refused_in}
-use Rattle.xds_history.specs.Right.{Right}
-use Rattle.legal_history.specs.Legal.{Legal}
+use Rattle.entry_law.specs.xds_history.Setting.{setting_of}
+use Rattle.entry_law.specs.xds_history.Responses.{answered_kind, refused_in}
+use Rattle.entry_law.specs.xds_history.Right.{Right}
+use Rattle.entry_law.specs.legal_history.Legal.{Legal}
 use Rattle.book_progress.specs.PlayedPlans.{IsPlayed}
-use Rattle.listed_patterns.specs.ListedPatterns.{listed_in}
+use Rattle.listed_events.specs.listed_patterns.ListedPatterns.{listed_in}
 use Rattle.listed_events.specs.ListedEvents.{ListsFor}
 
 -- an entry that answers a response tells as refused the texts that these lines list for it

@@ -4,3 +4,4 @@
 pub mod next_turns;
 
 pub use next_turns::{Next, next_after};
+pub use report_compare::{Mistake, PlayedPart, Why, compare, compare_until};

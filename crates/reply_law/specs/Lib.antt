@@ -1,1 +1,2 @@
 pub mod ReplyLaw
+pub use Rattle.xds_history.specs as xds_history

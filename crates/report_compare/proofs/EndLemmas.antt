@@ -5,8 +5,8 @@ use Rattle.xds_bootstrap.specs.declared.bootstrap.AuthorityEntry.{AuthorityEntry
 use Rattle.cluster_tree.specs.declared.snapshot.Snapshot.{Snapshot}
 use Rattle.call_journal.specs.declared.entry.Entry.{Entry}
 use Rattle.report_text.specs.ReportLines.{end_line}
-use Rattle.report_writer.specs.JournalReport.{entries_report, journal_report}
-use Rattle.report_writer.proofs.ReportLemmas.{last_of}
+use Rattle.front_law.specs.report_writer.JournalReport.{entries_report, journal_report}
+use Rattle.front_law.proofs.report_writer.ReportLemmas.{last_of}
 
 -- the last line stands behind the entries
 pub ends_so : (authorities : List AuthorityEntry) (published : List Snapshot) (entries : List Entry) (text end : List ℕ) (n m : ℕ) → text ≡ journal_report authorities published entries → end ≡ end_line n m

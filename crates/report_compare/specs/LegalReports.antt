@@ -2,7 +2,7 @@
 use Rattle.std.specs.Prelude.{◌≡◌, ℕ, List}
 use Rattle.call_journal.specs.declared.entry.Entry.{Entry}
 use Rattle.session_lines.specs.declared.session.Session.{Session}
-use Rattle.legal_history.specs.Legal.{Legal}
+use Rattle.text_law.specs.legal_history.Legal.{Legal}
 use Rattle.text_law.specs.TextLaw.{text_of}
 use Rattle.front_law.specs.FrontLaw.{IsFrontOf}
 

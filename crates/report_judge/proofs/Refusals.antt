@@ -6,9 +6,9 @@ use Rattle.session_lines.specs.declared.cause.Cause.{Cause}
 use Rattle.session_lines.specs.declared.cause.SessionFault.{SessionFault}
 use Rattle.session_lines.specs.declared.cause.SessionFault.TheVariants as fault
 use Rattle.session_lines.specs.declared.session.Session.{Session}
-use Rattle.report_compare.specs.FirstLines.{first_lines}
-use Rattle.report_compare.specs.LegalReports.{BeginsReport, IsReportOf}
-use Rattle.report_compare.specs.declared.mistakes.Mistake.{Mistake}
+use Rattle.judged_session.specs.report_compare.FirstLines.{first_lines}
+use Rattle.judged_session.specs.report_compare.LegalReports.{BeginsReport, IsReportOf}
+use Rattle.judged_session.specs.report_compare.declared.mistakes.Mistake.{Mistake}
 use Rattle.judged_session.specs.JudgedTurns.{IsWrongFor}
 use Rattle.report_judge.specs.Verdicts.{BeginsLegalReport, GoesOnLegally, IsLegalReport, refusal_of}
 use Rattle.report_judge.specs.declared.verdicts.Verdict.{Verdict}

@@ -5,10 +5,10 @@ use Rattle.session_lines.specs.declared.cause.SessionFault.{SessionFault}
 use Rattle.session_lines.specs.declared.cause.SessionFault.TheVariants as fault
 use Rattle.session_lines.specs.declared.session.Session.{Session}
 use Rattle.call_journal.specs.declared.entry.Entry.{Entry}
-use Rattle.legal_history.specs.Legal.{Legal}
-use Rattle.text_law.specs.TextLaw.{text_of}
-use Rattle.alike_law.specs.AlikeTexts.{GoesAlike}
-use Rattle.report_compare.specs.LegalReports.{BeginsReport, IsReportOf}
+use Rattle.judged_session.specs.legal_history.Legal.{Legal}
+use Rattle.judged_session.specs.text_law.TextLaw.{text_of}
+use Rattle.judged_session.specs.alike_law.AlikeTexts.{GoesAlike}
+use Rattle.judged_session.specs.report_compare.LegalReports.{BeginsReport, IsReportOf}
 use Rattle.report_judge.specs.declared.verdicts.Verdict.{Verdict}
 use Rattle.report_judge.specs.declared.verdicts.Verdict.TheVariants as verdict
 

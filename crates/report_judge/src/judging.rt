@@ -2,8 +2,8 @@
 ghost use Rattle.std.specs.Prelude.{◌≡◌, ◌⊎◌, ◌-◌, ℕ, Err};
 ghost use Rattle.session_lines.specs.Session.{session_of};
 ghost use Rattle.session_lines.specs.declared.cause.Cause.{Cause};
-ghost use Rattle.report_compare.specs.FirstLines.{first_lines};
-ghost use Rattle.report_compare.specs.declared.mistakes.Mistake.{Mistake as MistakeValue};
+ghost use Rattle.judged_session.specs.report_compare.FirstLines.{first_lines};
+ghost use Rattle.judged_session.specs.report_compare.declared.mistakes.Mistake.{Mistake as MistakeValue};
 ghost use Rattle.report_judge.specs.Verdicts.{BeginsLegalReport, GoesOnLegally, IsLegalReport};
 
 use crate::verdicts::{Verdict, refusal_of};

@@ -2,7 +2,7 @@
 ghost use Rattle.std.specs.Prelude.{◌≡◌};
 ghost use Rattle.report_judge.specs.Verdicts.{refusal_of};
 
-use report_compare::Mistake;
+use judged_session::Mistake;
 use session_lines::{Cause, SessionFault};
 
 /// What is answered of a report.

@@ -7,19 +7,19 @@ use Rattle.xds_config.specs.declared.config.Config.{Config}
 use Rattle.cluster_tree.specs.declared.snapshot.Snapshot.{Snapshot}
 use Rattle.call_journal.specs.declared.entry.What.{What}
 use Rattle.call_journal.specs.declared.entry.Entry.{Entry}
-use Rattle.xds_history.specs.Setting.{Setting}
-use Rattle.xds_history.specs.declared.page.Page.{Page}
-use Rattle.xds_history.specs.declared.page.ClusterTrees.{ClusterTrees}
-use Rattle.xds_history.specs.Page.{latest, latest_number, trees_now}
-use Rattle.xds_history.specs.References.{snapshot_at}
-use Rattle.xds_history.specs.Trees.{Present, trees_after}
-use Rattle.xds_history.specs.Pickers.{views}
-use Rattle.xds_history.specs.Pages.{caller_page, pages, page_of, present_after, snapshot_of}
-use Rattle.xds_history.specs.Right.{Right, IsReply, IsNumber, standing}
-use Rattle.xds_history.proofs.LawProofs.{entry_of}
-use Rattle.xds_history.proofs.KeepProofs.{config_at}
+use Rattle.legal_history.specs.xds_history.Setting.{Setting}
+use Rattle.legal_history.specs.xds_history.declared.page.Page.{Page}
+use Rattle.legal_history.specs.xds_history.declared.page.ClusterTrees.{ClusterTrees}
+use Rattle.legal_history.specs.xds_history.Page.{latest, latest_number, trees_now}
+use Rattle.legal_history.specs.xds_history.References.{snapshot_at}
+use Rattle.legal_history.specs.xds_history.Trees.{Present, trees_after}
+use Rattle.legal_history.specs.xds_history.Pickers.{views}
+use Rattle.legal_history.specs.xds_history.Pages.{caller_page, pages, page_of, present_after, snapshot_of}
+use Rattle.legal_history.specs.xds_history.Right.{Right, IsReply, IsNumber, standing}
+use Rattle.legal_history.proofs.xds_history.LawProofs.{entry_of}
+use Rattle.legal_history.proofs.xds_history.KeepProofs.{config_at}
 use Rattle.report_writer.specs.JournalReport.{numbered}
-use Rattle.xds_history.specs.References.{snapshots_of}
+use Rattle.legal_history.specs.xds_history.References.{snapshots_of}
 
 -- ---- lists
 

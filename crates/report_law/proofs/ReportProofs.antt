@@ -3,14 +3,14 @@ use Rattle.std.proofs.Common.{◌≡◌, List, [], ◌++◌, length, sym, ap, �
 use Rattle.xds_bootstrap.specs.declared.bootstrap.AuthorityEntry.{AuthorityEntry}
 use Rattle.cluster_tree.specs.declared.snapshot.Snapshot.{Snapshot}
 use Rattle.call_journal.specs.declared.entry.Entry.{Entry}
-use Rattle.report_text.specs.ReportLines.{Shown, end_line, entries_text, head_line, report_text}
+use Rattle.legal_history.specs.report_text.ReportLines.{Shown, end_line, entries_text, head_line, report_text}
 use Rattle.report_writer.specs.JournalReport.{entries_report, journal_report, shown_entries}
 use Rattle.report_writer.proofs.ReportLemmas.{shown_count}
 use Rattle.totals_writer.specs.Totals.{totals_of, totals_text}
-use Rattle.xds_history.specs.Pages.{pages}
-use Rattle.xds_history.specs.Setting.{Setting}
+use Rattle.legal_history.specs.xds_history.Pages.{pages}
+use Rattle.legal_history.specs.xds_history.Setting.{Setting}
 use Rattle.legal_history.specs.Report as history_of
-use Rattle.xds_history.specs.References.{snapshots_of}
+use Rattle.legal_history.specs.xds_history.References.{snapshots_of}
 use Rattle.report_law.specs.ReportLaw.{OneReport, OneTotals}
 use Rattle.report_law.proofs.PublishedLemmas.{are_counted}
 use Rattle.report_law.proofs.ShownLemmas.{same_shown}

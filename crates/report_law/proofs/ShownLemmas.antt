@@ -19,22 +19,22 @@ use Rattle.call_journal.specs.declared.entry.What.{What}
 use Rattle.call_journal.specs.declared.entry.Entry.{Entry}
 use Rattle.config_assembly.specs.Orders.{Name}
 use Rattle.report_parts.specs.Callers.{cluster_in, cluster_of_front}
-use Rattle.report_text.specs.ReportLines.{Shown}
+use Rattle.legal_history.specs.report_text.ReportLines.{Shown}
 use Rattle.report_writer.specs.JournalReport as journal
-use Rattle.xds_history.specs.Setting.{Setting}
-use Rattle.xds_history.specs.declared.page.Page.{Page}
-use Rattle.xds_history.specs.declared.page.ClusterTrees.{ClusterTrees}
-use Rattle.xds_history.specs.Page.{latest, trees_now}
-use Rattle.xds_history.specs.References.{held, holds_after, pinned, routed_to, snapshot_at}
-use Rattle.xds_history.specs.Trees.{Present, trees_after}
-use Rattle.xds_history.specs.Pickers.{views}
-use Rattle.xds_history.specs.Picks.{endpoint_reply, held_reply, part_at, reply_of, view_in, view_reply}
-use Rattle.xds_history.specs.Pages.{pages, page_of, present_after, snapshot_of}
-use Rattle.xds_history.specs.Right.{Right, IsNumber, caller_reply, commit_reply, hold_reply, pin_reply, standing}
-use Rattle.xds_history.proofs.LawProofs.{entry_of}
-use Rattle.xds_history.proofs.KeepProofs.{config_at}
+use Rattle.legal_history.specs.xds_history.Setting.{Setting}
+use Rattle.legal_history.specs.xds_history.declared.page.Page.{Page}
+use Rattle.legal_history.specs.xds_history.declared.page.ClusterTrees.{ClusterTrees}
+use Rattle.legal_history.specs.xds_history.Page.{latest, trees_now}
+use Rattle.legal_history.specs.xds_history.References.{held, holds_after, pinned, routed_to, snapshot_at}
+use Rattle.legal_history.specs.xds_history.Trees.{Present, trees_after}
+use Rattle.legal_history.specs.xds_history.Pickers.{views}
+use Rattle.legal_history.specs.xds_history.Picks.{endpoint_reply, held_reply, part_at, reply_of, view_in, view_reply}
+use Rattle.legal_history.specs.xds_history.Pages.{pages, page_of, present_after, snapshot_of}
+use Rattle.legal_history.specs.xds_history.Right.{Right, IsNumber, caller_reply, commit_reply, hold_reply, pin_reply, standing}
+use Rattle.legal_history.proofs.xds_history.LawProofs.{entry_of}
+use Rattle.legal_history.proofs.xds_history.KeepProofs.{config_at}
 use Rattle.legal_history.specs.Report as history
-use Rattle.xds_history.specs.References.{snapshots_of}
+use Rattle.legal_history.specs.xds_history.References.{snapshots_of}
 use Rattle.report_law.proofs.PublishedLemmas.{AreCounted, are_counted, number_kept}
 
 -- ---- a caller's reply names a snapshot that stands

@@ -1,1 +1,5 @@
 pub mod ReportLaw
+pub use Rattle.legal_history.specs as legal_history
+pub use Rattle.legal_history.specs.report_text as report_text
+pub use Rattle.report_writer.specs as report_writer
+pub use Rattle.legal_history.specs.xds_history as xds_history

@@ -4,12 +4,12 @@ use Rattle.xds_bootstrap.specs.declared.bootstrap.AuthorityEntry.{AuthorityEntry
 use Rattle.call_journal.specs.declared.entry.Entry.{Entry}
 use Rattle.report_writer.specs.JournalReport.{journal_report}
 use Rattle.totals_writer.specs.Totals.{journal_totals, totals_of, totals_text}
-use Rattle.xds_history.specs.Setting.{Setting}
-use Rattle.xds_history.specs.Page.{latest_number}
-use Rattle.xds_history.specs.Pages.{pages}
-use Rattle.xds_history.specs.Right.{Right}
+use Rattle.legal_history.specs.xds_history.Setting.{Setting}
+use Rattle.legal_history.specs.xds_history.Page.{latest_number}
+use Rattle.legal_history.specs.xds_history.Pages.{pages}
+use Rattle.legal_history.specs.xds_history.Right.{Right}
 use Rattle.legal_history.specs.Report.{report, shown_entries}
-use Rattle.xds_history.specs.References.{snapshots_of}
+use Rattle.legal_history.specs.xds_history.References.{snapshots_of}
 
 -- the report of a right history's entries and of the snapshots that it published is the report of the history
 abbrev pub OneReport : Type 0

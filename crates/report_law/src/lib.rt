@@ -4,3 +4,4 @@
 pub mod report_laws;
 
 pub use report_laws::{one_report, one_totals};
+pub use report_writer::write_report;

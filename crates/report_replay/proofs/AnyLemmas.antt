@@ -7,13 +7,13 @@ use Rattle.call_journal.specs.declared.entry.Entry.{Entry}
 use Rattle.call_journal.specs.declared.plan.Listed.{Listed}
 use Rattle.config_assembly.specs.Orders.{Name}
 use Rattle.completion_law.specs.CompletionLaw.{HasNoSweep}
-use Rattle.report_compare.specs.declared.mistakes.Mistake.{Mistake}
+use Rattle.replay_steps.specs.report_compare.declared.mistakes.Mistake.{Mistake}
 use Rattle.report_turns.specs.declared.misplaced_turns.Misplaced.{Misplaced}
-use Rattle.turn_steps.specs.declared.halts.Halt.{Halt}
+use Rattle.replay_steps.specs.turn_steps.declared.halts.Halt.{Halt}
 use Rattle.turn_player.specs.TurnPlans.{SeatView}
 use Rattle.turn_player.specs.TableSeats.{AreLeft, AreSeated, HasNoLineLeft, IsTurnPlayed}
-use Rattle.xds_book.specs.BookEntries.{entry_of}
-use Rattle.xds_book.specs.BookViews.{BookView}
+use Rattle.turn_player.specs.xds_book.BookEntries.{entry_of}
+use Rattle.turn_player.specs.xds_book.BookViews.{BookView}
 use Rattle.replay_steps.specs.NextTurns.{IsNextAfter, IsWrong, next_made}
 use Rattle.report_replay.specs.ReplayedTurns.{HasNoneLeft, IsEndOfAny, IsNextOfAny, IsUnderWay}
 use Rattle.replay_steps.specs.declared.next_turns.Next.{Next}

@@ -12,17 +12,17 @@ use Rattle.xds_bootstrap.specs.declared.bootstrap.Bootstrap.{Bootstrap}
 use Rattle.xds_name.specs.declared.target.Target.{Target}
 use Rattle.session_lines.specs.Lines.{lines_of}
 use Rattle.session_lines.specs.declared.session.Session.{Session}
-use Rattle.xds_history.specs.Setting.{setting_of}
-use Rattle.legal_history.specs.Legal.{Legal}
-use Rattle.text_law.specs.TextLaw.{text_of}
-use Rattle.turn_law.specs.TurnLaw.{IsTurn}
-use Rattle.turn_law.proofs.InTurnProofs.{entries_in_turn}
+use Rattle.completion_law.specs.xds_history.Setting.{setting_of}
+use Rattle.replay_steps.specs.legal_history.Legal.{Legal}
+use Rattle.replay_steps.specs.text_law.TextLaw.{text_of}
+use Rattle.alike_law.specs.turn_law.TurnLaw.{IsTurn}
+use Rattle.alike_law.proofs.turn_law.InTurnProofs.{entries_in_turn}
 use Rattle.alike_law.specs.AlikeTexts.{PartsAt}
 use Rattle.book_progress.specs.ActorCounts.{count_of}
 use Rattle.book_progress.specs.ProgressKept.{counts_of}
 use Rattle.book_progress.proofs.TallyLemmas.{count_at}
-use Rattle.xds_book.specs.BookEntries.{first_book, first_lane}
-use Rattle.xds_book.specs.BookViews.{BookView, LaneView}
+use Rattle.turn_player.specs.xds_book.BookEntries.{first_book, first_lane}
+use Rattle.turn_player.specs.xds_book.BookViews.{BookView, LaneView}
 use Rattle.turn_player.specs.TurnPlans.{SeatView}
 use Rattle.turn_player.specs.TableSeats.{AreSeated, IsSeatOf, free_seat}
 use Rattle.report_replay.specs.ReplayedTurns.{HasCome, HasRead, HasReplayed, IsLegalReplay, ReplayView, lines_left}

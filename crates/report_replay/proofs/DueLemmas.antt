@@ -6,26 +6,26 @@ use Rattle.call_journal.specs.declared.entry.What.{What}
 use Rattle.call_journal.specs.declared.plan.Listed.{Listed}
 use Rattle.config_assembly.specs.Orders.{Name}
 use Rattle.xc_base.specs.declared.names.Kind.{Kind}
-use Rattle.listed_patterns.specs.ListedPatterns.{listed_in}
+use Rattle.alike_law.specs.listed_patterns.ListedPatterns.{listed_in}
 use Rattle.session_lines.specs.declared.session.Session.{Session}
 use Rattle.session_plan.specs.PlanOfSession.{plan_of}
 use Rattle.session_plan.specs.ReadablePayloads.{is_response}
 use Rattle.session_shape.specs.SessionShape.{AreLines}
-use Rattle.xds_history.specs.Responses.{refused_in}
-use Rattle.xds_history.specs.Right.{Right}
-use Rattle.xds_history.specs.Setting.{setting_of}
-use Rattle.legal_history.specs.Legal.{Legal}
+use Rattle.completion_law.specs.xds_history.Responses.{refused_in}
+use Rattle.completion_law.specs.xds_history.Right.{Right}
+use Rattle.completion_law.specs.xds_history.Setting.{setting_of}
+use Rattle.replay_steps.specs.legal_history.Legal.{Legal}
 use Rattle.book_progress.specs.ActorCounts.{count_of}
 use Rattle.book_progress.specs.PlayedPlans.{IsNextOf, IsPlayed, step_in}
-use Rattle.next_law.proofs.NextProofs.{next_of_legal}
-use Rattle.sweep_law.proofs.LastProofs.{sweep_is_last}
+use Rattle.completion_law.proofs.next_law.NextProofs.{next_of_legal}
+use Rattle.completion_law.proofs.sweep_law.LastProofs.{sweep_is_last}
 use Rattle.replay_law.specs.ReplayLaw.{RefusesAsListed}
 use Rattle.replay_law.proofs.ReplayProofs.{replayed_is_one}
-use Rattle.turn_law.specs.TurnLaw.{IsActor, IsTurn}
+use Rattle.alike_law.specs.turn_law.TurnLaw.{IsActor, IsTurn}
 use Rattle.turn_player.specs.DueEvents.{told_by, told_where}
 use Rattle.turn_player.specs.TableSeats.{IsBy, IsDue, ListsIn}
-use Rattle.xds_book.specs.BookEntries.{entry_of}
-use Rattle.xds_book.specs.BookViews.{BookView}
+use Rattle.turn_player.specs.xds_book.BookEntries.{entry_of}
+use Rattle.turn_player.specs.xds_book.BookViews.{BookView}
 
 -- an entry among others is a turn
 pub turn_at : (later : List Entry) (e : Entry) (past : List Entry) → All IsTurn (later ++ e ∷ past) → IsTurn e

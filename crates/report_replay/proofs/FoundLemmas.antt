@@ -5,17 +5,17 @@ use Rattle.std.proofs.lemmas.List.Elements.{All-cons, All-head, All-nil, All-tai
 use Rattle.call_journal.specs.declared.entry.Entry.{Entry}
 use Rattle.session_lines.specs.Lines.{lines_of}
 use Rattle.session_lines.specs.declared.session.Session.{Session}
-use Rattle.xds_history.specs.Responses.{refused_in}
-use Rattle.xds_history.specs.Setting.{setting_of}
-use Rattle.legal_history.specs.Legal.{Legal}
-use Rattle.listed_patterns.specs.ListedPatterns.{listed_from, listed_in}
+use Rattle.completion_law.specs.xds_history.Responses.{refused_in}
+use Rattle.completion_law.specs.xds_history.Setting.{setting_of}
+use Rattle.replay_steps.specs.legal_history.Legal.{Legal}
+use Rattle.alike_law.specs.listed_patterns.ListedPatterns.{listed_from, listed_in}
 use Rattle.listed_law.proofs.ListedProofs.{listed_of_legal}
 use Rattle.alike_law.specs.AlikeTexts.{ListsAlike, Parting}
 use Rattle.report_turns.specs.TurnLines.{EntryPlace, Finding, Next, end, entry, finding_at, goes_on, next_of, turn_place}
 use Rattle.report_turns.specs.declared.entry_turns.EntryTurn.{EntryTurn}
-use Rattle.turn_law.specs.TurnLaw.{IsTurn, place_of}
-use Rattle.turn_law.proofs.InTurnProofs.{entries_in_turn}
-use Rattle.xds_book.specs.BookViews.{BookView}
+use Rattle.alike_law.specs.turn_law.TurnLaw.{IsTurn, place_of}
+use Rattle.alike_law.proofs.turn_law.InTurnProofs.{entries_in_turn}
+use Rattle.turn_player.specs.xds_book.BookViews.{BookView}
 use Rattle.report_replay.specs.ReplayedTurns.{HasReplayed, IsAlong, IsBeyond, IsTurnIn, ReplayView, lines_left}
 
 -- ---- the oldest of the entries that are left

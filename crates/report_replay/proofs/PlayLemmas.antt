@@ -9,26 +9,26 @@ use Rattle.xds_name.specs.declared.target.Target.{Target}
 use Rattle.session_lines.specs.declared.session.Session.{Session}
 use Rattle.session_plan.specs.PlanOfSession.{plan_of}
 use Rattle.session_plan.specs.ReadablePayloads.{is_response}
-use Rattle.session_player.specs.Stages.{IsOfSession}
-use Rattle.xds_history.specs.Right.{Right}
-use Rattle.xds_history.specs.Setting.{setting_of}
-use Rattle.legal_history.specs.Legal.{Legal}
-use Rattle.turn_law.specs.TurnLaw.{IsTurn}
+use Rattle.turn_player.specs.session_player.Stages.{IsOfSession}
+use Rattle.completion_law.specs.xds_history.Right.{Right}
+use Rattle.completion_law.specs.xds_history.Setting.{setting_of}
+use Rattle.replay_steps.specs.legal_history.Legal.{Legal}
+use Rattle.alike_law.specs.turn_law.TurnLaw.{IsTurn}
 use Rattle.alike_law.specs.AlikeTexts.{Parting}
-use Rattle.report_compare.specs.declared.mistakes.Mistake.{Mistake}
+use Rattle.replay_steps.specs.report_compare.declared.mistakes.Mistake.{Mistake}
 use Rattle.book_progress.specs.PlayedPlans.{IsPlayed}
 use Rattle.book_progress.specs.ProgressKept.{most_entries}
-use Rattle.sweep_law.proofs.SweepProofs.{sweep_stands}
+use Rattle.completion_law.proofs.sweep_law.SweepProofs.{sweep_stands}
 use Rattle.report_turns.specs.declared.entry_turns.EntryTurn.{EntryTurn}
 use Rattle.report_turns.specs.declared.misplaced_turns.Misplaced.{Misplaced}
-use Rattle.listed_events.specs.ListedEvents.{TellsOn}
-use Rattle.turn_steps.specs.declared.halts.Halt.{Halt}
-use Rattle.turn_steps.specs.declared.halts.Halt.TheVariants as halt
+use Rattle.replay_law.specs.listed_events.ListedEvents.{TellsOn}
+use Rattle.replay_steps.specs.turn_steps.declared.halts.Halt.{Halt}
+use Rattle.replay_steps.specs.turn_steps.declared.halts.Halt.TheVariants as halt
 use Rattle.turn_player.specs.TurnPlans.{SeatView}
 use Rattle.turn_player.specs.TableSeats.{AreDone, AreLeft, AreSeated, HasMore, IsDue, IsSweepNext, IsTurnPlayed}
-use Rattle.xds_book.specs.BookEntries.{entry_of}
-use Rattle.xds_book.specs.BookKept.{HasActors}
-use Rattle.xds_book.specs.BookViews.{BookView}
+use Rattle.turn_player.specs.xds_book.BookEntries.{entry_of}
+use Rattle.turn_player.specs.xds_book.BookKept.{HasActors}
+use Rattle.turn_player.specs.xds_book.BookViews.{BookView}
 use Rattle.std.specs.Prelude.{IfOk}
 use Rattle.std.specs.declared.alloc.AllocError.{AllocError}
 use Rattle.replay_steps.specs.NextTurns.{IsNextAfter, next_made}

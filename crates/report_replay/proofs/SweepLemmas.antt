@@ -8,14 +8,14 @@ use Rattle.call_journal.specs.declared.plan.Listed.{Listed}
 use Rattle.session_lines.specs.declared.session.Session.{Session}
 use Rattle.session_plan.specs.PlanOfSession.{plan_of}
 use Rattle.session_plan.specs.ReadablePayloads.{is_response}
-use Rattle.legal_history.specs.Legal.{Legal}
+use Rattle.replay_steps.specs.legal_history.Legal.{Legal}
 use Rattle.book_progress.specs.ActorCounts.{count_of}
 use Rattle.book_progress.specs.PlayedPlans.{IsListed, all_ended}
 use Rattle.book_progress.proofs.TallyLemmas.{count_is}
-use Rattle.next_law.proofs.EndProofs.{end_of_legal}
-use Rattle.sweep_law.specs.SweepLaw.{listed_sweep}
-use Rattle.sweep_law.proofs.SweepProofs.{sweep_is_listed, sweep_stands}
-use Rattle.xds_book.specs.BookViews.{BookView}
+use Rattle.completion_law.proofs.next_law.EndProofs.{end_of_legal}
+use Rattle.completion_law.specs.sweep_law.SweepLaw.{listed_sweep}
+use Rattle.completion_law.proofs.sweep_law.SweepProofs.{sweep_is_listed, sweep_stands}
+use Rattle.turn_player.specs.xds_book.BookViews.{BookView}
 use Rattle.turn_player.specs.TurnPlans.{SeatView}
 use Rattle.turn_player.specs.TableSeats.{AreDone, IsSeatOf, IsSweepNext}
 use Rattle.turn_player.proofs.PlaceLemmas.{one_listed}

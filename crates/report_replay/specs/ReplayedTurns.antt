@@ -8,21 +8,21 @@ use Rattle.xds_bootstrap.specs.declared.bootstrap.Bootstrap.{Bootstrap}
 use Rattle.xds_name.specs.declared.target.Target.{Target}
 use Rattle.session_lines.specs.Lines.{lines_of}
 use Rattle.session_lines.specs.declared.session.Session.{Session}
-use Rattle.session_player.specs.Stages.{IsOfSession}
-use Rattle.xds_history.specs.Responses.{refused_in}
-use Rattle.xds_history.specs.Setting.{setting_of}
-use Rattle.legal_history.specs.Legal.{Legal}
+use Rattle.turn_player.specs.session_player.Stages.{IsOfSession}
+use Rattle.completion_law.specs.xds_history.Responses.{refused_in}
+use Rattle.completion_law.specs.xds_history.Setting.{setting_of}
+use Rattle.replay_steps.specs.legal_history.Legal.{Legal}
 use Rattle.completion_law.specs.CompletionLaw.{HasNoSweep}
-use Rattle.turn_law.specs.LinesBehind.{lines_behind}
-use Rattle.listed_patterns.specs.ListedPatterns.{listed_in}
+use Rattle.alike_law.specs.turn_law.LinesBehind.{lines_behind}
+use Rattle.alike_law.specs.listed_patterns.ListedPatterns.{listed_in}
 use Rattle.report_turns.specs.TurnLines.{goes_on}
 use Rattle.alike_law.specs.AlikeTexts.{Parting}
-use Rattle.turn_law.specs.TurnLaw.{IsTurn}
+use Rattle.alike_law.specs.turn_law.TurnLaw.{IsTurn}
 use Rattle.report_turns.specs.declared.entry_turns.EntryTurn.{EntryTurn}
-use Rattle.report_compare.specs.declared.mistakes.Mistake.{Mistake}
+use Rattle.replay_steps.specs.report_compare.declared.mistakes.Mistake.{Mistake}
 use Rattle.turn_player.specs.TurnPlans.{SeatView}
 use Rattle.turn_player.specs.TableSeats.{AreSeated, HasNoLineLeft}
-use Rattle.xds_book.specs.BookViews.{BookView}
+use Rattle.turn_player.specs.xds_book.BookViews.{BookView}
 use Rattle.replay_steps.specs.declared.next_turns.Next.{Next}
 use Rattle.replay_steps.specs.declared.next_turns.Next.TheVariants as next
 

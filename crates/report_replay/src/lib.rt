@@ -3,4 +3,6 @@
 
 pub mod replaying;
 
+pub use replay_steps::{Mistake, PlayedPart, compare, compare_until};
 pub use replaying::Replay;
+pub use turn_player::{Book, Job, Lane, Table};

@@ -2,22 +2,20 @@
 ghost use Rattle.std.specs.Prelude.{◌≡◌, ◌+◌, ℕ, List, All, length, map, IfOk};
 ghost use Rattle.call_journal.specs.declared.entry.Entry.{Entry as EntryValue};
 ghost use Rattle.session_lines.specs.declared.session.Session.{Session};
-ghost use Rattle.listed_events.specs.ListedEvents.{TellsOn};
+ghost use Rattle.replay_law.specs.listed_events.ListedEvents.{TellsOn};
 ghost use Rattle.turn_player.specs.TurnPlans.{IsTurnPlan};
 ghost use Rattle.alike_law.specs.AlikeTexts.{ListsAlike, Parting};
 ghost use Rattle.report_replay.specs.ReplayedTurns.{HasRead, HasReplayed, IsEndOfAny, IsNextOfAny, IsNextOfReplay, IsLegalReplay, IsPlayedByAny, IsReplayed, IsTurnIn, IsUnderWay};
 
 use call_journal::Plan;
 use header_match::Patterns;
-use replay_steps::{Next, next_after};
-use report_compare::{Mistake, Why};
+use replay_steps::{Mistake, Next, Why, next_after};
 use report_turns::{EntryTurn, EntryTurns, Found};
 use std::marker::Model;
 use std::sync::Wait;
 use std::sync::ledger::Ledger;
-use turn_player::Table;
+use turn_player::{Book, Job, Lane, Table};
 use xc_base::Memory;
-use xds_book::{Book, Job, Lane};
 
 /// The turns of a report, which are played on the Book of its session. Contracts see the plan of the session, the seats of its
 /// actors, and the lines of the report that are left.

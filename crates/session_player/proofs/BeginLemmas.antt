@@ -10,9 +10,9 @@ use Rattle.xds_name.specs.declared.target.Target.{Target}
 use Rattle.session_lines.specs.declared.session.Session.{Session}
 use Rattle.session_plan.specs.PlanOfSession.{plan_of}
 use Rattle.session_plan.specs.ReadablePayloads.{is_response}
-use Rattle.xds_history.specs.Setting.{setting_of}
-use Rattle.xds_history.specs.Right.{Right}
-use Rattle.legal_history.specs.Legal.{Legal}
+use Rattle.legal_plan.specs.xds_history.Setting.{setting_of}
+use Rattle.legal_plan.specs.xds_history.Right.{Right}
+use Rattle.legal_plan.specs.legal_history.Legal.{Legal}
 use Rattle.book_progress.specs.ActorCounts.{count_of}
 use Rattle.book_progress.specs.PlayedPlans.{IsPlayed}
 use Rattle.book_progress.specs.ProgressKept.{counts_of}

@@ -11,11 +11,11 @@ use Rattle.call_journal.specs.declared.reply.CallerReply.{CallerReply}
 use Rattle.call_journal.specs.declared.entry.What.{What}
 use Rattle.call_journal.specs.declared.entry.Entry.{Entry}
 use Rattle.config_assembly.specs.Orders.{Name}
-use Rattle.xds_history.specs.Setting.{Setting}
-use Rattle.xds_history.specs.Words.{first_some}
-use Rattle.xds_history.specs.declared.page.Page.{Page}
-use Rattle.xds_history.specs.References.{held, holds_after, pinned, pins_after}
-use Rattle.xds_history.specs.Pages.{page_of, pages}
+use Rattle.legal_plan.specs.xds_history.Setting.{Setting}
+use Rattle.legal_plan.specs.xds_history.Words.{first_some}
+use Rattle.legal_plan.specs.xds_history.declared.page.Page.{Page}
+use Rattle.legal_plan.specs.xds_history.References.{held, holds_after, pinned, pins_after}
+use Rattle.legal_plan.specs.xds_history.Pages.{page_of, pages}
 use Rattle.session_lines.specs.Before.{call_in, is_started, starts}
 use Rattle.session_lines.specs.declared.session.Act.{Act}
 use Rattle.session_lines.specs.declared.session.Act.TheVariants as act

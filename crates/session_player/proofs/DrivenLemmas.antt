@@ -22,7 +22,7 @@ use Rattle.session_script.specs.Plan.{Streams, events_of, is_of_caller, lines_by
 use Rattle.session_plan.specs.PlanOfSession.{driver_plan, events_in, plan_item, plan_of}
 use Rattle.session_plan.specs.ReadablePayloads.{is_response}
 use Rattle.session_plan.proofs.DriverLemmas.{list_more}
-use Rattle.legal_history.specs.Legal.{AreOpen}
+use Rattle.legal_plan.specs.legal_history.Legal.{AreOpen}
 use Rattle.book_progress.specs.ActorCounts.{count_after, count_of}
 use Rattle.book_progress.specs.EndedLines.{event_ends}
 use Rattle.book_progress.specs.PlayedPlans.{IsNextOf, driver}

@@ -24,7 +24,7 @@ use Rattle.session_plan.specs.PlayedEvents as events
 use Rattle.session_plan.specs.ReadablePayloads.{is_response}
 use Rattle.session_plan.proofs.DriverLemmas.{list_end}
 use Rattle.session_plan.proofs.LawProofs.{caller_at}
-use Rattle.legal_history.specs.Legal.{AreOpen, EndsInSweep}
+use Rattle.legal_plan.specs.legal_history.Legal.{AreOpen, EndsInSweep}
 use Rattle.legal_plan.proofs.LegalityProofs.{ended_plan_is_legal}
 use Rattle.book_progress.specs.ActorCounts.{actor_entries, count_of}
 use Rattle.book_progress.specs.PlayedPlans as played

@@ -8,8 +8,8 @@ use Rattle.call_journal.specs.declared.reply.CallerReply.{CallerReply}
 use Rattle.call_journal.specs.declared.entry.What.{What}
 use Rattle.call_journal.specs.declared.entry.Entry.{Entry}
 use Rattle.session_lines.specs.declared.session.Line.{Line}
-use Rattle.legal_history.specs.Legal as legal
-use Rattle.legal_history.specs.Legal.{AreOpen, gate_of}
+use Rattle.legal_plan.specs.legal_history.Legal as legal
+use Rattle.legal_plan.specs.legal_history.Legal.{AreOpen, gate_of}
 use Rattle.book_progress.specs.EndedLines.{IsOpen, ends_line, has_ended}
 use Rattle.session_shape.specs.SessionShape.{IsGate}
 use Rattle.session_player.specs.LineProgress.{AreEndedTo, IsEnded}

@@ -3,7 +3,7 @@ use Rattle.std.proofs.Common.{◌≡◌, ℕ, List, [], ◌∷◌, ◌++◌, ref
 use Rattle.call_journal.specs.declared.entry.Entry.{Entry}
 use Rattle.check_steps.specs.Asking.{IsSubsequence}
 use Rattle.config_assembly.specs.Orders.{Name}
-use Rattle.xds_history.specs.Responses.{refused_texts}
+use Rattle.legal_plan.specs.xds_history.Responses.{refused_texts}
 use Rattle.session_player.specs.Stages.{Refuses}
 
 among_more : (us zs : List Name) (y : Name) → IsSubsequence us zs → IsSubsequence us (y ∷ zs)

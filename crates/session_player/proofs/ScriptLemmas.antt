@@ -27,13 +27,13 @@ use Rattle.std.proofs.lemmas.List.FromFn.{length-map-range_with_len}
 use Rattle.session_plan.specs.PlanOfSession.{caller_plan, plan_of}
 use Rattle.session_plan.specs.PlanOfSession as of_session
 use Rattle.session_plan.specs.ReadablePayloads.{is_response}
-use Rattle.xds_history.specs.Setting.{Setting, setting_of}
-use Rattle.xds_history.specs.Page.{latest, latest_number}
-use Rattle.xds_history.specs.Pages.{pages}
-use Rattle.xds_history.specs.References.{held, pinned}
-use Rattle.xds_history.specs.Responses.{refused_texts}
-use Rattle.xds_history.specs.Right.{caller_reply, pin_reply}
-use Rattle.legal_history.specs.Legal.{EndsInSweep}
+use Rattle.legal_plan.specs.xds_history.Setting.{Setting, setting_of}
+use Rattle.legal_plan.specs.xds_history.Page.{latest, latest_number}
+use Rattle.legal_plan.specs.xds_history.Pages.{pages}
+use Rattle.legal_plan.specs.xds_history.References.{held, pinned}
+use Rattle.legal_plan.specs.xds_history.Responses.{refused_texts}
+use Rattle.legal_plan.specs.xds_history.Right.{caller_reply, pin_reply}
+use Rattle.legal_plan.specs.legal_history.Legal.{EndsInSweep}
 use Rattle.book_progress.specs.ActorCounts.{count_after, count_of, with_ended}
 use Rattle.book_progress.specs.EndedLines.{event_ends}
 use Rattle.book_progress.specs.PlayedPlans as played

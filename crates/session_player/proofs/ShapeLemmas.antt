@@ -8,7 +8,7 @@ use Rattle.std.proofs.lemmas.List.{drop_more, reverse-append, take_more}
 use Rattle.std.proofs.lemmas.Option.{get_or_from_slice_get, slice_get_within}
 use Rattle.xds_bootstrap.specs.declared.bootstrap.Bootstrap.{Bootstrap}
 use Rattle.session_lines.specs.declared.session.Line.{Line}
-use Rattle.legal_history.specs.Legal.{gate_of}
+use Rattle.legal_plan.specs.legal_history.Legal.{gate_of}
 use Rattle.session_shape.specs.SessionShape.{AreLines, IsLine}
 
 pub drop_at : {X : Type 0} (xs : List X) (i : ℕ) (x : X) → slice_get xs i ≡ Some x → drop i xs ≡ x ∷ drop (i + 1) xs

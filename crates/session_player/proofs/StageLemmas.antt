@@ -13,11 +13,11 @@ use Rattle.xc_base.specs.declared.names.Kind.{Kind}
 use Rattle.check_steps.specs.Asking.{IsSubsequence}
 use Rattle.config_assembly.specs.Orders.{Name}
 use Rattle.resource_check.specs.declared.delivery.Prepared.{Prepared}
-use Rattle.xds_history.specs.Responses.{answered_kind}
+use Rattle.legal_plan.specs.xds_history.Responses.{answered_kind}
 use Rattle.book_progress.specs.ActorCounts.{count_after, count_of, no_count}
 use Rattle.book_progress.specs.ProgressKept.{counts_of, most_entries}
-use Rattle.xds_history.specs.References.{snapshots_of}
-use Rattle.xds_history.specs.declared.page.Page.{Page}
+use Rattle.legal_plan.specs.xds_history.References.{snapshots_of}
+use Rattle.legal_plan.specs.xds_history.declared.page.Page.{Page}
 use Rattle.cluster_tree.specs.declared.snapshot.Snapshot.{Snapshot}
 use Rattle.xds_book.specs.BookViews as book
 use Rattle.xds_book.specs.BookViews.{BookView, LaneView}

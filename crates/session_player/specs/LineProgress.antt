@@ -17,8 +17,8 @@ use Rattle.session_lines.specs.declared.session.Session.{Session}
 use Rattle.session_script.specs.Plan.{Streams, driver_list, lines_by, listed_for}
 use Rattle.session_plan.specs.PlanOfSession.{events_in, plan_item, plan_of}
 use Rattle.session_plan.specs.ReadablePayloads.{IsShort, is_response}
-use Rattle.legal_history.specs.Legal as legal
-use Rattle.legal_history.specs.Legal.{AreOpen}
+use Rattle.legal_plan.specs.legal_history.Legal as legal
+use Rattle.legal_plan.specs.legal_history.Legal.{AreOpen}
 use Rattle.book_progress.specs.ActorCounts.{count_of}
 use Rattle.book_progress.specs.EndedLines.{event_ends, has_ended}
 use Rattle.book_progress.specs.ProgressKept.{most_entries}

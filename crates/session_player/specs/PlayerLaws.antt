@@ -4,9 +4,9 @@ use Rattle.call_journal.specs.declared.entry.Entry.{Entry}
 use Rattle.session_lines.specs.declared.session.Session.{Session}
 use Rattle.session_plan.specs.PlanOfSession.{plan_of}
 use Rattle.session_plan.specs.ReadablePayloads.{is_response}
-use Rattle.xds_history.specs.Right.{Right}
-use Rattle.xds_history.specs.Setting.{setting_of}
-use Rattle.legal_history.specs.Legal.{EndsInSweep, Legal}
+use Rattle.legal_plan.specs.xds_history.Right.{Right}
+use Rattle.legal_plan.specs.xds_history.Setting.{setting_of}
+use Rattle.legal_plan.specs.legal_history.Legal.{EndsInSweep, Legal}
 use Rattle.book_progress.specs.PlayedPlans.{IsPlayed}
 use Rattle.session_player.specs.LineProgress.{IsAtEnd}
 

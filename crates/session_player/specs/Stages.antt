@@ -14,8 +14,8 @@ use Rattle.xds_name.specs.declared.target.Target.{Target}
 use Rattle.session_lines.specs.declared.session.Session.{Session}
 use Rattle.session_plan.specs.PlanOfSession.{plan_of}
 use Rattle.session_plan.specs.ReadablePayloads.{is_response}
-use Rattle.xds_history.specs.Responses.{refused_texts}
-use Rattle.legal_history.specs.Legal.{EndsInSweep}
+use Rattle.legal_plan.specs.xds_history.Responses.{refused_texts}
+use Rattle.legal_plan.specs.legal_history.Legal.{EndsInSweep}
 use Rattle.book_progress.specs.ActorCounts.{count_of}
 use Rattle.book_progress.specs.ProgressKept.{counts_of}
 use Rattle.xds_book.specs.BookViews.{BookView, LaneView}

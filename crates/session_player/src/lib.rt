@@ -10,3 +10,4 @@ mod stage;
 pub use player_laws::end_is_legal;
 pub use session_playing::{Played, play};
 pub use shared_events::{ends, shared_event};
+pub use xds_book::{Book, BookFault, Job, Lane, Pinned};

@@ -4,7 +4,7 @@ ghost use Rattle.std.specs.List.{slice_get};
 ghost use Rattle.xds_bootstrap.specs.declared.bootstrap.Bootstrap.{Bootstrap as BootstrapValue};
 ghost use Rattle.session_lines.specs.declared.session.Act.TheVariants as does;
 ghost use Rattle.session_lines.specs.declared.session.Line.{Line as LineValue};
-ghost use Rattle.xds_history.specs.Responses.{refused_texts};
+ghost use Rattle.legal_plan.specs.xds_history.Responses.{refused_texts};
 ghost use Rattle.book_progress.specs.ActorCounts.{count_of};
 ghost use Rattle.xds_book.specs.BookEntries.{IsPreparedFor};
 ghost use Rattle.session_player.specs.LineProgress.{IsCalling, IsPlayable};

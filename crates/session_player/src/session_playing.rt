@@ -3,10 +3,10 @@ ghost use Rattle.std.specs.Prelude.{◌≡◌, ◌≤◌, ◌<◌, ◌+◌, [], 
 ghost use Rattle.snapshot_store.specs.Tickets.{values_of};
 ghost use Rattle.session_plan.specs.PlanOfSession.{plan_of};
 ghost use Rattle.session_plan.specs.ReadablePayloads.{is_response};
-ghost use Rattle.xds_history.specs.Pages.{pages};
-ghost use Rattle.xds_history.specs.References.{snapshots_of};
-ghost use Rattle.xds_history.specs.Setting.{setting_of};
-ghost use Rattle.legal_history.specs.Legal.{Legal};
+ghost use Rattle.legal_plan.specs.xds_history.Pages.{pages};
+ghost use Rattle.legal_plan.specs.xds_history.References.{snapshots_of};
+ghost use Rattle.legal_plan.specs.xds_history.Setting.{setting_of};
+ghost use Rattle.legal_plan.specs.legal_history.Legal.{Legal};
 ghost use Rattle.book_progress.specs.ProgressKept.{most_entries};
 ghost use Rattle.session_shape.specs.SessionShape.{IsWellFormed};
 ghost use Rattle.session_player.specs.Stages.{IsOfSession, Refuses};

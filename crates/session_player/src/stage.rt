@@ -1,10 +1,10 @@
 //! A Book with the lanes of its actors.
 ghost use Rattle.std.specs.Prelude.{◌≡◌, ◌≢◌, ◌<◌, ◌≤◌, ◌+◌, [], length, All, IfOk, OnOk, false, None};
 ghost use Rattle.snapshot_store.specs.Tickets.{values_of};
-ghost use Rattle.xds_history.specs.Pages.{pages};
-ghost use Rattle.xds_history.specs.References.{held, pinned, snapshots_of};
-ghost use Rattle.xds_history.specs.Right.{Right};
-ghost use Rattle.xds_history.specs.Setting.{setting_of};
+ghost use Rattle.legal_plan.specs.xds_history.Pages.{pages};
+ghost use Rattle.legal_plan.specs.xds_history.References.{held, pinned, snapshots_of};
+ghost use Rattle.legal_plan.specs.xds_history.Right.{Right};
+ghost use Rattle.legal_plan.specs.xds_history.Setting.{setting_of};
 ghost use Rattle.book_progress.specs.ActorCounts.{count_of};
 ghost use Rattle.book_progress.specs.PlayedPlans.{IsNext, IsPlayed};
 ghost use Rattle.book_progress.specs.PlayedPlans as played;

@@ -13,7 +13,7 @@ use Rattle.session_script.specs.Plan as plan
 use Rattle.session_script.specs.Plan.{driver_list, entries_by, entry_event, is_of_caller, lines_by, listed_event, none_up}
 use Rattle.session_plan.specs.PlanOfSession.{plan_item}
 use Rattle.session_plan.specs.ReadablePayloads.{is_response}
-use Rattle.legal_history.specs.Legal.{Legal}
+use Rattle.next_law.specs.legal_history.Legal.{Legal}
 use Rattle.book_progress.specs.ActorCounts.{count_of}
 use Rattle.next_law.proofs.EndProofs.{end_of_legal}
 use Rattle.next_law.proofs.ListLemmas.{IsListFor, caller, driver, list_for, list_of}

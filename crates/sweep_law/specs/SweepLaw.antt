@@ -8,7 +8,7 @@ use Rattle.call_journal.specs.declared.plan.ListedEvent.{ListedEvent}
 use Rattle.session_lines.specs.declared.session.Session.{Session}
 use Rattle.session_plan.specs.PlanOfSession.{plan_of}
 use Rattle.session_plan.specs.ReadablePayloads.{is_response}
-use Rattle.legal_history.specs.Legal.{Legal}
+use Rattle.next_law.specs.legal_history.Legal.{Legal}
 use Rattle.session_shape.specs.SessionShape.{AreLines}
 use Rattle.book_progress.specs.ActorCounts.{count_of}
 use Rattle.book_progress.specs.PlayedPlans.{IsListed}

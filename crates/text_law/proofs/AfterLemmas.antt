@@ -5,11 +5,11 @@ use Rattle.std.specs.Fmt.{decimal}
 use Rattle.xds_bootstrap.specs.declared.bootstrap.AuthorityEntry.{AuthorityEntry}
 use Rattle.call_journal.specs.declared.entry.Entry.{Entry}
 use Rattle.call_journal.specs.declared.entry.What.{What}
-use Rattle.report_text.specs.EntryText.{entry_lines}
-use Rattle.report_text.specs.ReportLines.{Shown, end_line, entries_text, head_line, report_text}
-use Rattle.xds_history.specs.Setting.{Setting}
-use Rattle.xds_history.specs.declared.page.Page.{Page}
-use Rattle.xds_history.specs.Pages.{page_of, pages}
+use Rattle.legal_history.specs.report_text.EntryText.{entry_lines}
+use Rattle.legal_history.specs.report_text.ReportLines.{Shown, end_line, entries_text, head_line, report_text}
+use Rattle.legal_history.specs.xds_history.Setting.{Setting}
+use Rattle.legal_history.specs.xds_history.declared.page.Page.{Page}
+use Rattle.legal_history.specs.xds_history.Pages.{page_of, pages}
 use Rattle.legal_history.specs.Report.{shown_entries, shown_entry}
 use Rattle.text_law.proofs.Texts.{begins_pattern}
 use Rattle.text_law.proofs.EntryLemmas.{entry_parts, tail_of}

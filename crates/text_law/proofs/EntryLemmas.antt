@@ -7,7 +7,7 @@ use Rattle.std.specs.Fmt.{decimal}
 use Rattle.std.proofs.lemmas.Fmt.{decimal_injective}
 use Rattle.xc_base.specs.declared.names.Key.{Key}
 use Rattle.xds_bootstrap.specs.declared.bootstrap.AuthorityEntry.{AuthorityEntry}
-use Rattle.cluster_tree.specs.declared.snapshot.Snapshot.{Snapshot}
+use Rattle.legal_history.specs.cluster_tree.declared.snapshot.Snapshot.{Snapshot}
 use Rattle.ads_stream.specs.declared.verdict.Verdict.{Verdict}
 use Rattle.call_journal.specs.declared.event.DriverEvent.{DriverEvent}
 use Rattle.call_journal.specs.declared.event.BytesHow.{BytesHow}
@@ -23,7 +23,7 @@ use Rattle.report_parts.specs.Driver.{driver_line, event_text, how_text, missing
 use Rattle.report_parts.specs.RequestText.{pattern_line, request_line}
 use Rattle.report_parts.specs.Snapshots.{snapshot_line, snapshot_lines}
 use Rattle.report_parts.specs.Callers.{caller_event_text, caller_line, caller_reply_text}
-use Rattle.report_text.specs.EntryText.{entry_line, entry_lines, more_lines, pattern_lines, request_lines, reply_lines, what_line}
+use Rattle.legal_history.specs.report_text.EntryText.{entry_line, entry_lines, more_lines, pattern_lines, request_lines, reply_lines, what_line}
 use Rattle.text_law.proofs.Texts.{lacks, begins_pattern}
 use Rattle.text_law.proofs.TextLemmas.{cut_at, decimal_lacks, escaped_injective, escaped_no_feed, lacks-append}
 

@@ -12,16 +12,16 @@ use Rattle.call_journal.specs.declared.entry.What.{What}
 use Rattle.session_script.specs.Plan.{AreListed, entries_by, entry_event}
 use Rattle.session_lines.specs.declared.session.Line.{Line}
 use Rattle.session_lines.specs.declared.session.Session.{Session}
-use Rattle.report_text.specs.ReportLines.{end_line}
+use Rattle.legal_history.specs.report_text.ReportLines.{end_line}
 use Rattle.report_parts.specs.Driver.{driver_line}
-use Rattle.report_text.specs.EntryText.{reply_lines}
-use Rattle.xds_history.specs.Setting.{Setting, setting_of}
-use Rattle.xds_history.specs.Responses.{refused_in}
-use Rattle.xds_history.specs.Right.{Right}
-use Rattle.xds_history.specs.HistoryLaws.{Asked, asked_of}
+use Rattle.legal_history.specs.report_text.EntryText.{reply_lines}
+use Rattle.legal_history.specs.xds_history.Setting.{Setting, setting_of}
+use Rattle.legal_history.specs.xds_history.Responses.{refused_in}
+use Rattle.legal_history.specs.xds_history.Right.{Right}
+use Rattle.legal_history.specs.xds_history.HistoryLaws.{Asked, asked_of}
 use Rattle.legal_history.specs.Legal.{AreStarted, IsHistoryOf, is_read}
 use Rattle.legal_history.specs.Report.{report}
-use Rattle.xds_history.proofs.LawProofs.{one_reply}
+use Rattle.legal_history.proofs.xds_history.LawProofs.{one_reply}
 use Rattle.text_law.specs.TextLaw.{OneText}
 use Rattle.text_law.proofs.EntryLemmas.{callers_read, letters_differ, refused_read, tail_of, tails_read}
 use Rattle.text_law.proofs.ActorLemmas.{actor_few, caller_is_other, caller_next, driver_is_first, driver_next}

@@ -19,24 +19,24 @@ use Rattle.proto_cluster.specs.Assignment.{assignment_of}
 use Rattle.check_steps.specs.declared.check_fault.Stop.{Stop}
 use Rattle.check_steps.specs.declared.check_fault.Stop.TheVariants.{Because, Refused}
 use Rattle.check_steps.specs.declared.check_fault.Refusal.{Refusal}
-use Rattle.resource_check.specs.declared.raw.Raw.{Raw}
-use Rattle.resource_check.specs.declared.raw.Raw.TheVariants as raw
-use Rattle.resource_check.specs.declared.raw.Found.{Found}
-use Rattle.resource_check.specs.declared.resource.Checked.{Checked}
+use Rattle.legal_history.specs.resource_check.declared.raw.Raw.{Raw}
+use Rattle.legal_history.specs.resource_check.declared.raw.Raw.TheVariants as raw
+use Rattle.legal_history.specs.resource_check.declared.raw.Found.{Found}
+use Rattle.legal_history.specs.resource_check.declared.resource.Checked.{Checked}
 use Rattle.check_routes.specs.ListenerTable.{any_in, any_there, listener_value, manager_in, named_routes, routes_of}
-use Rattle.resource_check.specs.Resources.{check_of, found_of, message_of, name_of, own_name, read_raw, under, value_of}
+use Rattle.legal_history.specs.resource_check.Resources.{check_of, found_of, message_of, name_of, own_name, read_raw, under, value_of}
 use Rattle.check_steps.specs.TableSteps.{◌>>=◌, readable}
 use Rattle.xds_bootstrap.specs.declared.bootstrap.Bootstrap.{Bootstrap}
 use Rattle.xds_name.specs.declared.target.Target.{Target}
 use Rattle.call_journal.specs.declared.entry.Entry.{Entry}
 use Rattle.call_journal.specs.declared.entry.What.{What}
-use Rattle.xds_history.specs.Setting.{setting_of}
-use Rattle.xds_history.specs.Words.{among}
-use Rattle.resource_check.specs.Deliveries.{once, refused_text}
-use Rattle.xds_history.specs.Responses.{refused_in, stopped_at}
-use Rattle.xds_history.specs.declared.responses.Told.{Told}
-use Rattle.xds_history.specs.Right.{IsReply}
-use Rattle.xds_history.specs.Pages.{pages}
+use Rattle.legal_history.specs.xds_history.Setting.{setting_of}
+use Rattle.legal_history.specs.xds_history.Words.{among}
+use Rattle.legal_history.specs.resource_check.Deliveries.{once, refused_text}
+use Rattle.legal_history.specs.xds_history.Responses.{refused_in, stopped_at}
+use Rattle.legal_history.specs.xds_history.declared.responses.Told.{Told}
+use Rattle.legal_history.specs.xds_history.Right.{IsReply}
+use Rattle.legal_history.specs.xds_history.Pages.{pages}
 use Rattle.text_law.specs.RefusedTexts.{RefusedAreTexts}
 use Rattle.text_law.proofs.StopLemmas.{Maybe, RoutesUtf8, Stops, StopsAt, stops_assignment, stops_because, stops_cluster, stops_demand, stops_named, stops_ok, stops_readable, stops_then, stops_value}
 use Rattle.text_law.proofs.ReadLemmas.{ManagerUtf8, ManagerOneUtf8, reads_manager, reads_routes}

@@ -4,9 +4,9 @@ use Rattle.std.specs.Str.{IsUtf8}
 use Rattle.xds_bootstrap.specs.declared.bootstrap.Bootstrap.{Bootstrap}
 use Rattle.xds_name.specs.declared.target.Target.{Target}
 use Rattle.call_journal.specs.declared.entry.Entry.{Entry}
-use Rattle.xds_history.specs.Setting.{setting_of}
-use Rattle.xds_history.specs.Responses.{refused_in}
-use Rattle.xds_history.specs.Right.{Right}
+use Rattle.legal_history.specs.xds_history.Setting.{setting_of}
+use Rattle.legal_history.specs.xds_history.Responses.{refused_in}
+use Rattle.legal_history.specs.xds_history.Right.{Right}
 
 -- the pattern texts that an entry of a right history of a session's setting tells as refused are UTF-8
 abbrev pub RefusedAreTexts : Type 0

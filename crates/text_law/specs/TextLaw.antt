@@ -3,7 +3,7 @@ use Rattle.std.specs.Prelude.{◌≡◌, ℕ, List, Ok}
 use Rattle.call_journal.specs.declared.entry.Entry.{Entry}
 use Rattle.session_lines.specs.Session.{session_of}
 use Rattle.session_lines.specs.declared.session.Session.{Session}
-use Rattle.xds_history.specs.Setting.{setting_of}
+use Rattle.legal_history.specs.xds_history.Setting.{setting_of}
 use Rattle.legal_history.specs.Legal.{Legal}
 use Rattle.legal_history.specs.Report.{report}
 

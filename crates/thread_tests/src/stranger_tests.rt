@@ -1,23 +1,21 @@
 //! A lane that is of another channel.
 ghost use Rattle.std.specs.Prelude.{◌≡◌, ◌<◌, Some};
-ghost use Rattle.session_player.specs.Stages.{IsOfSession};
+ghost use Rattle.threaded_player.specs.session_player.Stages.{IsOfSession};
 
 use call_journal::{Count, ListedEvent, Plan};
-use channel_calls::{ChanFault, Channel, First};
+use channel_calls::{ChanFault, Channel, First, next_listed};
 use cluster_tree::Snapshot;
 use header_match::RegexPatterns;
-use lane_checks::next_listed;
 use session_input::session_in;
 use session_lines::Session;
 use session_plan::plan_session;
-use session_player::shared_event;
 use snapshot_store::Archive;
 use std::alloc::Global;
 use std::marker::Brand;
 use std::sync::Wait;
 use std::sync::ledger::{Blank, Ledger};
 use std::test::Fail;
-use threaded_player::begin_channel;
+use threaded_player::{begin_channel, shared_event};
 use xc_base::{Memory, Shared, Steps};
 use xds_book::{Job, Lane};
 

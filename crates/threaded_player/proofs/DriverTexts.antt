@@ -4,11 +4,11 @@ use Rattle.check_steps.specs.Asking.{IsSubsequence}
 use Rattle.check_steps.proofs.AskingLemmas.{subsequence_append}
 use Rattle.config_assembly.specs.Orders.{Name}
 use Rattle.call_journal.specs.declared.entry.Entry.{Entry}
-use Rattle.channel_calls.specs.LockedBooks.{IsDriven}
-use Rattle.xds_history.specs.Responses.{refused_texts}
-use Rattle.xds_book.specs.BookEntries.{first_lane}
-use Rattle.xds_book.specs.BookViews.{LaneView}
-use Rattle.session_player.specs.Stages.{Refuses}
+use Rattle.channel_crossing.specs.channel_calls.LockedBooks.{IsDriven}
+use Rattle.channel_crossing.specs.xds_history.Responses.{refused_texts}
+use Rattle.closed_book.specs.xds_book.BookEntries.{first_lane}
+use Rattle.closed_book.specs.xds_book.BookViews.{LaneView}
+use Rattle.closed_book.specs.session_player.Stages.{Refuses}
 use Rattle.threaded_player.specs.ThreadedPlay.{HasGrown, IsDriverFrom}
 
 -- before anything is played

@@ -10,11 +10,11 @@ use Rattle.session_lines.specs.declared.session.Session.{Session}
 use Rattle.session_plan.specs.PlanOfSession.{plan_of}
 use Rattle.session_plan.specs.ReadablePayloads.{is_response}
 use Rattle.book_progress.specs.PlayedPlans.{IsListed}
-use Rattle.channel_calls.specs.ChannelPlans.{HasChannelPlan, HasListed, HasNext, IsChannelPlan}
-use Rattle.channel_plan.proofs.PlanProofs.{plan_is_for_a_channel}
-use Rattle.xds_book.specs.BookEntries.{first_lane}
-use Rattle.xds_book.specs.BookViews.{LaneView}
-use Rattle.session_player.specs.Stages.{IsOfSession}
+use Rattle.channel_crossing.specs.channel_calls.ChannelPlans.{HasChannelPlan, HasListed, HasNext, IsChannelPlan}
+use Rattle.closed_book.proofs.channel_plan.PlanProofs.{plan_is_for_a_channel}
+use Rattle.closed_book.specs.xds_book.BookEntries.{first_lane}
+use Rattle.closed_book.specs.xds_book.BookViews.{LaneView}
+use Rattle.closed_book.specs.session_player.Stages.{IsOfSession}
 
 -- what is listed for a lane is what comes next for it
 pub next_of : (plan : Option (List (List Listed))) (lists : List (List Listed)) (lane : LaneView) (listed : Listed) → plan ≡ Some lists → IsListed lists lane.actor lane.count listed

@@ -4,12 +4,12 @@ use denote.Param.Send.{IsSend, IsSync, sendable}
 use denote.Param.SendFields.{declared_sync}
 use Rattle.std.proofs.Crossing.{crosses}
 use Rattle.call_journal.proofs.plan.Plan.TheSendSync.{the_sync as plan_sync}
-use Rattle.channel_calls.specs.contracts.locked_channel.Channel as Channel
+use Rattle.channel_crossing.specs.channel_calls.contracts.locked_channel.Channel as Channel
 use Rattle.channel_crossing.proofs.ChannelCalls.{channel_sync}
 use Rattle.threaded_player.proofs.seats.Seat.TheSendSync.{the_sync as seat_sync}
 use Rattle.threaded_player.specs.contracts.players.Players as Players
 use Rattle.threaded_player.specs.contracts.seats.Seat as Seat
-use Rattle.xds_book.specs.declared.jobs.Job.{Ghosts}
+use Rattle.closed_book.specs.xds_book.declared.jobs.Job.{Ghosts}
 
 pub players_sync : (J : RattleType) (g : Ghosts J.Denot) → IsSend J → IsSync (Players.the_row J g)
 players_sync J g s =

@@ -1,1 +1,2 @@
 pub mod ThreadedPlay
+pub use Rattle.closed_book.specs.session_player as session_player

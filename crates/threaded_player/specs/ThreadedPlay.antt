@@ -2,7 +2,7 @@
 use Rattle.std.specs.Prelude.{◌≡◌, List, ◌++◌, length, take}
 use Rattle.check_steps.specs.Asking.{IsSubsequence}
 use Rattle.config_assembly.specs.Orders.{Name}
-use Rattle.xds_book.specs.BookViews.{LaneView}
+use Rattle.closed_book.specs.xds_book.BookViews.{LaneView}
 
 -- the texts that a builder has refused have grown at their end
 abbrev pub HasGrown : List Name → List Name → Type 0

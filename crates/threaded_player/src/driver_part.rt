@@ -1,24 +1,22 @@
 //! The part of the thread that drives: it plays for the driver, and for the callers that have no thread.
 ghost use Rattle.std.specs.Prelude.{◌≡◌, ◌<◌, ℕ, List, [], IfOk, OnOk};
 ghost use Rattle.call_journal.specs.declared.plan.ListedEvent.TheVariants as ListedValue;
-ghost use Rattle.channel_calls.specs.ChannelPlans.{HasNext};
+ghost use Rattle.channel_crossing.specs.channel_calls.ChannelPlans.{HasNext};
 ghost use Rattle.config_assembly.specs.Orders.{Name};
-ghost use Rattle.xds_book.specs.BookEntries.{first_lane};
+ghost use Rattle.closed_book.specs.xds_book.BookEntries.{first_lane};
 ghost use Rattle.threaded_player.specs.ThreadedPlay.{HasGrown, IsDriverFrom};
 
 use crate::fault_stops::stop_of;
 use crate::growing_patterns::{Beginning, Growing};
 use crate::players::Players;
 use call_journal::{DriverEvent, Listed, ListedEvent};
-use channel_calls::Gate;
-use closed_book::Stop;
+use channel_crossing::Gate;
+use closed_book::{Job, Lane, Stop, ends, shared_event};
 use header_match::Patterns;
-use session_player::{ends, shared_event};
 use std::marker::{Brand, PhantomData};
 use std::sync::Wait;
 use std::sync::ledger::{Blank, Ledger};
 use xc_base::{Memory, Steps};
-use xds_book::{Job, Lane};
 
 /// The lanes of callers that have no thread, and the counter of the steps that routes cost.
 #[derive(Drop)]

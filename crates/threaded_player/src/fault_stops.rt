@@ -1,5 +1,5 @@
 //! What a fault of a channel comes to.
-use channel_calls::{ChanFault, First};
+use channel_crossing::{ChanFault, First};
 use closed_book::Stop;
 
 /// What a fault of a channel comes to.

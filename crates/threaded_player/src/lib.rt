@@ -9,5 +9,7 @@ mod seats;
 pub mod session_channel;
 pub mod threaded_playing;
 
+pub use channel_crossing::Gate;
+pub use closed_book::{Played, shared_event};
 pub use session_channel::begin_channel;
 pub use threaded_playing::play_on_threads;

@@ -1,18 +1,17 @@
 //! What the threads of a session share, and how a thread plays for its actors.
 ghost use Rattle.std.specs.Prelude.{◌≡◌, ◌<◌, ◌+◌, length, IfOk, IfSome, OnOk, Some};
-ghost use Rattle.channel_calls.specs.ChannelPlans.{HasNext};
-ghost use Rattle.xds_book.specs.BookEntries.{first_lane};
-ghost use Rattle.session_player.specs.Stages.{IsOfSession};
+ghost use Rattle.channel_crossing.specs.channel_calls.ChannelPlans.{HasNext};
+ghost use Rattle.closed_book.specs.xds_book.BookEntries.{first_lane};
+ghost use Rattle.closed_book.specs.session_player.Stages.{IsOfSession};
 
 use crate::fault_stops::stop_of;
 use crate::seats::Seat;
 use crate::session_channel::begin_channel;
 use call_journal::{Listed, ListedEvent, Plan};
 use caller_threads::Crew;
-use channel_calls::{Channel, Gate};
-use closed_book::{ClosedBook, Stop};
+use channel_crossing::{Channel, Gate, next_listed};
+use closed_book::{ClosedBook, Job, Lane, Stop};
 use cluster_tree::Snapshot;
-use lane_checks::next_listed;
 use session_lines::Session;
 use snapshot_store::Archive;
 use std::alloc::Global;
@@ -20,7 +19,6 @@ use std::marker::Brand;
 use std::sync::Wait;
 use std::sync::ledger::{Blank, Ledger};
 use xc_base::{Call, List, Memory, Shared, Steps};
-use xds_book::{Job, Lane};
 
 /// What the threads of a session share: the channel, the plan that they play, and a seat for each caller, in their order.
 #[derive(Drop)]

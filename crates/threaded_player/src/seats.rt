@@ -1,8 +1,7 @@
 //! Where the lanes of actors are while no thread plays for them.
-use closed_book::Stop;
+use closed_book::{Job, Lane, Stop};
 use std::mem;
 use std::sync::{Mutex, Wait};
-use xds_book::{Job, Lane};
 
 /// Where a lane is.
 #[derive(Drop)]

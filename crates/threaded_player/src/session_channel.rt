@@ -1,18 +1,18 @@
 //! The channel of a session.
 ghost use Rattle.std.specs.Prelude.{◌≡◌, ◌+◌, IfOk, map};
 ghost use Rattle.std.specs.List.{range_with_len};
-ghost use Rattle.xds_book.specs.BookEntries.{first_lane};
-ghost use Rattle.session_player.specs.Stages.{IsOfSession};
+ghost use Rattle.closed_book.specs.xds_book.BookEntries.{first_lane};
+ghost use Rattle.closed_book.specs.session_player.Stages.{IsOfSession};
 
 use call_journal::Plan;
-use channel_calls::Channel;
+use channel_crossing::Channel;
+use closed_book::{Job, Lane};
 use cluster_tree::Snapshot;
 use session_lines::Session;
 use session_script::room;
 use snapshot_store::Archive;
 use std::alloc::Global;
 use xc_base::{List, Memory, Shared};
-use xds_book::{Job, Lane};
 
 /// A channel on which a session can be played by its plan, with a lane for the driver and for each caller. It fails for want
 /// of memory alone.

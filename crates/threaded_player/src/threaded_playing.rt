@@ -3,14 +3,14 @@ ghost use Rattle.std.specs.Prelude.{◌≡◌, ◌≤◌, ◌<◌, [], length, I
 ghost use Rattle.snapshot_store.specs.Tickets.{values_of};
 ghost use Rattle.session_plan.specs.PlanOfSession.{plan_of};
 ghost use Rattle.session_plan.specs.ReadablePayloads.{is_response};
-ghost use Rattle.xds_history.specs.Pages.{pages};
-ghost use Rattle.xds_history.specs.References.{snapshots_of};
-ghost use Rattle.xds_history.specs.Setting.{setting_of};
-ghost use Rattle.legal_history.specs.Legal.{Legal};
+ghost use Rattle.channel_crossing.specs.xds_history.Pages.{pages};
+ghost use Rattle.channel_crossing.specs.xds_history.References.{snapshots_of};
+ghost use Rattle.channel_crossing.specs.xds_history.Setting.{setting_of};
+ghost use Rattle.closed_book.specs.legal_history.Legal.{Legal};
 ghost use Rattle.book_progress.specs.ProgressKept.{most_entries};
-ghost use Rattle.xds_book.specs.BookEntries.{first_lane};
+ghost use Rattle.closed_book.specs.xds_book.BookEntries.{first_lane};
 ghost use Rattle.session_shape.specs.SessionShape.{IsWellFormed};
-ghost use Rattle.session_player.specs.Stages.{IsOfSession, Refuses};
+ghost use Rattle.closed_book.specs.session_player.Stages.{IsOfSession, Refuses};
 ghost use Rattle.threaded_player.specs.ThreadedPlay.{HasGrown, IsDriverFrom};
 ghost use Rattle.std.specs.Thread.{IsSync};
 
@@ -18,13 +18,12 @@ use crate::driver_part::drive_here;
 use crate::players::Players;
 use call_journal::Plan;
 use caller_threads::work_beside;
-use channel_calls::Gate;
-use closed_book::Stop;
+use channel_crossing::Gate;
+use closed_book::{Job, Lane, Played, Stop, play};
 use cluster_tree::Snapshot;
 use header_match::Patterns;
 use session_lines::Session;
 use session_plan::plan_session;
-use session_player::{Played, play};
 use snapshot_store::Archive;
 use std::alloc::{AllocError, Global};
 use std::marker::Brand;
@@ -32,7 +31,6 @@ use std::sync::Wait;
 use std::sync::ledger::{Blank, Ledger};
 use std::thread::Threads;
 use xc_base::{Memory, Shared};
-use xds_book::{Job, Lane};
 
 /// A session with its plan, and the archive into which its snapshots go.
 #[derive(Drop)]

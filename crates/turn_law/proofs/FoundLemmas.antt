@@ -17,10 +17,10 @@ use Rattle.report_parts.specs.Driver.{driver_line}
 use Rattle.report_parts.specs.RequestText.{pattern_line, request_line, request_text}
 use Rattle.report_parts.specs.Snapshots.{clusters_from, front_text, snapshot_line, snapshot_lines}
 use Rattle.report_parts.specs.Callers.{caller_event_text, caller_line, caller_reply_text, picker_in}
-use Rattle.report_text.specs.EntryText.{entry_lines, more_lines, pattern_lines, reply_lines, request_lines, what_line}
-use Rattle.report_text.specs.ReportLines.{end_line}
+use Rattle.text_law.specs.report_text.EntryText.{entry_lines, more_lines, pattern_lines, reply_lines, request_lines, what_line}
+use Rattle.text_law.specs.report_text.ReportLines.{end_line}
 use Rattle.report_turns.specs.TurnLines.{end, entry, next_of}
-use Rattle.xds_history.specs.Setting.{Setting}
+use Rattle.text_law.specs.xds_history.Setting.{Setting}
 use Rattle.text_law.proofs.TextLemmas.{decimal_lacks, lacks-append}
 use Rattle.text_law.proofs.EntryLemmas.{entry_parts}
 use Rattle.text_law.proofs.AfterLemmas.{shown_next}

@@ -6,10 +6,10 @@ use Rattle.xds_bootstrap.specs.declared.bootstrap.AuthorityEntry.{AuthorityEntry
 use Rattle.call_journal.specs.declared.entry.Entry.{Entry}
 use Rattle.session_lines.specs.Lines.{lines_of}
 use Rattle.report_turns.specs.TurnLines.{Next, end, entry, next_of}
-use Rattle.xds_history.specs.Page.{latest_number}
-use Rattle.xds_history.specs.Pages.{pages}
-use Rattle.xds_history.specs.Setting.{Setting}
-use Rattle.legal_history.specs.Report.{shown_entries}
+use Rattle.text_law.specs.xds_history.Page.{latest_number}
+use Rattle.text_law.specs.xds_history.Pages.{pages}
+use Rattle.text_law.specs.xds_history.Setting.{Setting}
+use Rattle.text_law.specs.legal_history.Report.{shown_entries}
 use Rattle.text_law.proofs.AfterLemmas.{shown_next, text_end}
 use Rattle.turn_law.specs.TurnLaw.{IsTurn, place_of}
 use Rattle.turn_law.specs.LinesBehind.{EntriesInTurn, later_text, lines_behind, newest_more_lines}

@@ -6,13 +6,13 @@ use Rattle.xds_bootstrap.specs.declared.bootstrap.AuthorityEntry.{AuthorityEntry
 use Rattle.call_journal.specs.declared.entry.Entry.{Entry}
 use Rattle.call_journal.specs.declared.entry.What.{What}
 use Rattle.session_lines.specs.Lines.{lines_of}
-use Rattle.report_text.specs.EntryText.{entry_lines, more_lines}
-use Rattle.report_text.specs.ReportLines.{Shown, end_line, entries_text, head_line, report_text}
-use Rattle.xds_history.specs.Page.{latest_number}
-use Rattle.xds_history.specs.Pages.{page_of, pages}
-use Rattle.xds_history.specs.Setting.{Setting}
-use Rattle.xds_history.specs.declared.page.Page.{Page}
-use Rattle.legal_history.specs.Report.{shown_entries}
+use Rattle.text_law.specs.report_text.EntryText.{entry_lines, more_lines}
+use Rattle.text_law.specs.report_text.ReportLines.{Shown, end_line, entries_text, head_line, report_text}
+use Rattle.text_law.specs.xds_history.Page.{latest_number}
+use Rattle.text_law.specs.xds_history.Pages.{page_of, pages}
+use Rattle.text_law.specs.xds_history.Setting.{Setting}
+use Rattle.text_law.specs.xds_history.declared.page.Page.{Page}
+use Rattle.text_law.specs.legal_history.Report.{shown_entries}
 use Rattle.text_law.proofs.AfterLemmas.{onto, onto_is, shown_after, shown_next, text_after, text_cut}
 use Rattle.turn_law.specs.LinesBehind.{later_text, newest_more_lines}
 

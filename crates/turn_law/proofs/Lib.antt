@@ -10,3 +10,5 @@ pub mod LaterLemmas
 pub mod ListedLemmas
 pub mod InTurnProofs
 mod TurnProofs
+pub use Rattle.text_law.proofs as text_law
+pub use Rattle.text_law.proofs.xds_history as xds_history

@@ -10,12 +10,12 @@ use Rattle.call_journal.specs.declared.reply.Sent.{Sent}
 use Rattle.session_lines.specs.Lines.{lines_of}
 use Rattle.report_parts.specs.RequestText.{request_line}
 use Rattle.report_parts.specs.Snapshots.{snapshot_line, snapshot_lines}
-use Rattle.report_text.specs.EntryText.{more_lines, pattern_lines, reply_lines, request_lines}
-use Rattle.xds_history.specs.Page.{latest_number}
-use Rattle.xds_history.specs.Pages.{pages}
-use Rattle.xds_history.specs.Responses.{refused_in}
-use Rattle.xds_history.specs.Setting.{Setting}
-use Rattle.legal_history.specs.Report.{shown_entries}
+use Rattle.text_law.specs.report_text.EntryText.{more_lines, pattern_lines, reply_lines, request_lines}
+use Rattle.text_law.specs.xds_history.Page.{latest_number}
+use Rattle.text_law.specs.xds_history.Pages.{pages}
+use Rattle.text_law.specs.xds_history.Responses.{refused_in}
+use Rattle.text_law.specs.xds_history.Setting.{Setting}
+use Rattle.text_law.specs.legal_history.Report.{shown_entries}
 use Rattle.text_law.proofs.Texts.{begins_pattern}
 use Rattle.text_law.proofs.AfterLemmas.{rest_first, shown_next, text_after}
 use Rattle.turn_law.specs.LinesBehind.{ListsPatterns, is_pattern, later_text, lines_behind}

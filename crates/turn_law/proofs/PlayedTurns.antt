@@ -14,8 +14,8 @@ use Rattle.session_lines.specs.declared.session.DriverLine.{DriverLine}
 use Rattle.session_lines.specs.declared.session.Line.{Line}
 use Rattle.session_lines.specs.declared.session.Work.{Work}
 use Rattle.session_script.specs.Plan.{ActEvents, AreListed, ArePlayed, Listed, Streams, WorkEvents, all, caller_event, data_events, driver_event, driver_list, ended_in, entries_by, entry_event, how_of, is_of_caller, last_sweep, lines_by, listed_event, listed_for, next, none_up, played_of, work_events, work_streams}
-use Rattle.legal_history.specs.Legal.{is_read}
-use Rattle.xds_history.specs.Setting.{setting_of}
+use Rattle.text_law.specs.legal_history.Legal.{is_read}
+use Rattle.text_law.specs.xds_history.Setting.{setting_of}
 use Rattle.text_law.proofs.SessionLemmas.{read_few}
 use Rattle.turn_law.specs.TurnLaw.{IsActor, IsTurn, LegalAreTurns, address_in, event_address}
 use Rattle.turn_law.proofs.FeedLemmas.{NoFeed, in_names, nothing}

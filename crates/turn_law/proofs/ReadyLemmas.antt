@@ -27,16 +27,16 @@ use Rattle.call_journal.specs.declared.entry.Entry.{Entry}
 use Rattle.call_journal.specs.declared.entry.What.{What}
 use Rattle.config_assembly.specs.Orders.{Name}
 use Rattle.report_parts.specs.Callers as report
-use Rattle.xds_history.specs.Clock.{reported_by, state}
-use Rattle.xds_history.specs.Pages.{page_of, pages, present_after, snapshot_of}
-use Rattle.xds_history.specs.Pickers.{child_localities, cluster_view, leaf_named, no_picker, part_of, picker, picker_at, picker_in, view_with}
-use Rattle.xds_history.specs.References.{snapshot_at}
-use Rattle.xds_history.specs.Setting.{Setting}
-use Rattle.xds_history.specs.Trees.{Present, chosen_child, trees_of}
-use Rattle.xds_history.specs.declared.page.ClusterTrees.{ClusterTrees}
-use Rattle.xds_history.specs.declared.page.Page.{Page}
-use Rattle.xds_history.specs.declared.page.Tree.{Tree}
-use Rattle.legal_history.specs.Report.{number_in}
+use Rattle.text_law.specs.xds_history.Clock.{reported_by, state}
+use Rattle.text_law.specs.xds_history.Pages.{page_of, pages, present_after, snapshot_of}
+use Rattle.text_law.specs.xds_history.Pickers.{child_localities, cluster_view, leaf_named, no_picker, part_of, picker, picker_at, picker_in, view_with}
+use Rattle.text_law.specs.xds_history.References.{snapshot_at}
+use Rattle.text_law.specs.xds_history.Setting.{Setting}
+use Rattle.text_law.specs.xds_history.Trees.{Present, chosen_child, trees_of}
+use Rattle.text_law.specs.xds_history.declared.page.ClusterTrees.{ClusterTrees}
+use Rattle.text_law.specs.xds_history.declared.page.Page.{Page}
+use Rattle.text_law.specs.xds_history.declared.page.Tree.{Tree}
+use Rattle.text_law.specs.legal_history.Report.{number_in}
 use Rattle.turn_law.specs.TurnLaw.{IsTurn, address_in, event_address}
 use Rattle.turn_law.proofs.FeedLemmas.{NoFeed, nothing, plain, reply_address}
 

@@ -5,7 +5,7 @@ use Rattle.xds_bootstrap.specs.declared.bootstrap.AuthorityEntry.{AuthorityEntry
 use Rattle.call_journal.specs.declared.entry.Entry.{Entry}
 use Rattle.report_turns.specs.TurnLines.{EntryPlace, Finding, Next, end, entry, findings_in, next_of, with_more}
 use Rattle.report_turns.proofs.TurnLemmas.{found_in_turn}
-use Rattle.xds_history.specs.Setting.{Setting}
+use Rattle.text_law.specs.xds_history.Setting.{Setting}
 use Rattle.turn_law.specs.TurnLaw.{TurnsOfReport, place_of}
 use Rattle.turn_law.specs.LinesBehind.{IsReadInTurn, lines_behind}
 use Rattle.turn_law.proofs.LineLemmas.{next_with}

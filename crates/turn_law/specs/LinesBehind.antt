@@ -5,15 +5,15 @@ use Rattle.std.specs.Str.{bytes_eq}
 use Rattle.xds_bootstrap.specs.declared.bootstrap.AuthorityEntry.{AuthorityEntry}
 use Rattle.call_journal.specs.declared.entry.Entry.{Entry}
 use Rattle.session_lines.specs.Lines.{lines_of}
-use Rattle.report_text.specs.EntryText.{more_lines, pattern_lines}
-use Rattle.report_text.specs.ReportLines.{end_line, entries_text}
+use Rattle.text_law.specs.report_text.EntryText.{more_lines, pattern_lines}
+use Rattle.text_law.specs.report_text.ReportLines.{end_line, entries_text}
 use Rattle.report_turns.specs.TurnLines.{end, entry, next_of}
-use Rattle.xds_history.specs.Page.{latest_number}
-use Rattle.xds_history.specs.Pages.{pages}
-use Rattle.xds_history.specs.Responses.{refused_in}
-use Rattle.xds_history.specs.Setting.{Setting}
-use Rattle.xds_history.specs.declared.page.Page.{Page}
-use Rattle.legal_history.specs.Report.{named_in, report, shown_entries}
+use Rattle.text_law.specs.xds_history.Page.{latest_number}
+use Rattle.text_law.specs.xds_history.Pages.{pages}
+use Rattle.text_law.specs.xds_history.Responses.{refused_in}
+use Rattle.text_law.specs.xds_history.Setting.{Setting}
+use Rattle.text_law.specs.xds_history.declared.page.Page.{Page}
+use Rattle.text_law.specs.legal_history.Report.{named_in, report, shown_entries}
 use Rattle.turn_law.specs.TurnLaw.{IsTurn, place_of}
 
 -- the lines of the newest page's entry behind its first one

@@ -9,9 +9,9 @@ use Rattle.session_lines.specs.Lines.{lines_of}
 use Rattle.session_lines.specs.Session.{session_of}
 use Rattle.session_lines.specs.declared.session.Session.{Session}
 use Rattle.report_turns.specs.TurnLines.{EntryPlace, end, entry, findings_in}
-use Rattle.xds_history.specs.Setting.{Setting}
-use Rattle.legal_history.specs.Legal.{Legal}
-use Rattle.legal_history.specs.Report.{report}
+use Rattle.text_law.specs.xds_history.Setting.{Setting}
+use Rattle.text_law.specs.legal_history.Legal.{Legal}
+use Rattle.text_law.specs.legal_history.Report.{report}
 
 -- the driver is actor 0, and callers are 1 and more, in 16 bits
 abbrev pub IsActor : ℕ → What → Type 0

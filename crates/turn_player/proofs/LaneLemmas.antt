@@ -1,7 +1,7 @@
 -- The lanes of seats at which no pin is up.
 use Rattle.std.proofs.Common.{◌≡◌, List, [], ◌∷◌, ◌++◌, map, All, sym, ap, ◌∙◌, refl}
 use Rattle.std.proofs.lemmas.List.Elements.{All-head, All-nil, All-cons, All-tail}
-use Rattle.xds_book.specs.BookViews.{LaneView}
+use Rattle.session_player.specs.xds_book.BookViews.{LaneView}
 use Rattle.turn_player.specs.TurnPlans.{SeatView}
 
 abbrev pub IsFree : SeatView → Type 0

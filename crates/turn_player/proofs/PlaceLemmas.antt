@@ -14,12 +14,12 @@ use Rattle.book_progress.specs.PlayedPlans.{IsCallStep, IsListed, IsNextOf, IsPl
 use Rattle.book_progress.specs.PlayedPlans as played
 use Rattle.book_progress.specs.ProgressKept.{most_entries}
 use Rattle.book_progress.proofs.TallyLemmas.{count_is}
-use Rattle.planned_calls.specs.PlannedCalls.{plan_entries}
-use Rattle.planned_calls.proofs.RoomProofs.{next_has_room}
-use Rattle.xds_book.specs.BookEntries.{IsLaneOf}
-use Rattle.xds_book.specs.BookKept.{HasActors}
-use Rattle.xds_book.specs.BookViews.{BookView, LaneView}
-use Rattle.channel_calls.specs.ChannelPlans.{HasChannelPlan, HasNext, HasUp}
+use Rattle.turn_steps.specs.planned_calls.PlannedCalls.{plan_entries}
+use Rattle.turn_steps.proofs.planned_calls.RoomProofs.{next_has_room}
+use Rattle.session_player.specs.xds_book.BookEntries.{IsLaneOf}
+use Rattle.session_player.specs.xds_book.BookKept.{HasActors}
+use Rattle.session_player.specs.xds_book.BookViews.{BookView, LaneView}
+use Rattle.turn_steps.specs.channel_calls.ChannelPlans.{HasChannelPlan, HasNext, HasUp}
 use Rattle.turn_steps.specs.MadeSteps.{CanStep}
 use Rattle.turn_player.specs.TurnPlans.{IsSeat, IsUp, SeatView, UpView}
 use Rattle.turn_player.specs.DueEvents.{IsOf}

@@ -7,9 +7,9 @@ use Rattle.call_journal.specs.declared.plan.ListedEvent.{ListedEvent}
 use Rattle.config_assembly.specs.Orders.{Name}
 use Rattle.book_progress.specs.PlayedPlans.{IsPlayed}
 use Rattle.book_progress.specs.ProgressKept.{most_entries}
-use Rattle.xds_book.specs.BookEntries.{entry_of}
-use Rattle.xds_book.specs.BookViews.{BookView, LaneView}
-use Rattle.channel_calls.specs.ChannelPlans.{HasChannelPlan, HasNext, IsDrivable}
+use Rattle.session_player.specs.xds_book.BookEntries.{entry_of}
+use Rattle.session_player.specs.xds_book.BookViews.{BookView, LaneView}
+use Rattle.turn_steps.specs.channel_calls.ChannelPlans.{HasChannelPlan, HasNext, IsDrivable}
 use Rattle.turn_steps.specs.MadeSteps.{CanStep}
 use Rattle.turn_player.specs.TurnPlans.{IsTurnPlan, SeatView, UpView}
 use Rattle.turn_player.specs.DueEvents.{IsOf, IsShortOf, ListsOf}

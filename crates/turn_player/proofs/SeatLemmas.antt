@@ -10,13 +10,13 @@ use Rattle.call_journal.specs.declared.entry.What.{What}
 use Rattle.call_journal.specs.declared.plan.Count.{Count}
 use Rattle.call_journal.specs.declared.plan.ListedEvent.{ListedEvent}
 use Rattle.config_assembly.specs.Orders.{Name}
-use Rattle.xds_history.specs.Responses.{refused_in, refused_texts}
+use Rattle.turn_steps.specs.xds_history.Responses.{refused_in, refused_texts}
 use Rattle.book_progress.specs.ActorCounts.{count_after, count_of}
 use Rattle.book_progress.specs.ProgressKept.{counts_of}
 use Rattle.book_progress.proofs.TallyLemmas.{count_at, count_is}
-use Rattle.book_streams.proofs.MarkLemmas.{set_elsewhere, set_here}
-use Rattle.xds_book.specs.BookEntries.{IsLaneOf, entry_of}
-use Rattle.xds_book.specs.BookViews.{BookView}
+use Rattle.turn_steps.proofs.book_streams.MarkLemmas.{set_elsewhere, set_here}
+use Rattle.session_player.specs.xds_book.BookEntries.{IsLaneOf, entry_of}
+use Rattle.session_player.specs.xds_book.BookViews.{BookView}
 use Rattle.turn_player.specs.TurnPlans.{SeatView}
 use Rattle.turn_player.specs.DueEvents.{IsOf, ListsOf, MakesTurn, played_by, told_by}
 use Rattle.turn_player.specs.TableSeats.{AreSeated, IsSeatOf, IsTurnPlayed, ListsIn}

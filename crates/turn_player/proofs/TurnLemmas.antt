@@ -7,11 +7,11 @@ use Rattle.call_journal.specs.declared.reply.CallerReply.{CallerReply}
 use Rattle.call_journal.specs.declared.entry.What.{What}
 use Rattle.call_journal.specs.declared.plan.Listed.{Listed}
 use Rattle.call_journal.specs.declared.plan.ListedEvent.{ListedEvent}
-use Rattle.xds_history.specs.Setting.{Setting}
+use Rattle.turn_steps.specs.xds_history.Setting.{Setting}
 use Rattle.book_progress.specs.ActorCounts.{count_called}
-use Rattle.xds_book.specs.BookEntries.{Makes, answered_call}
-use Rattle.xds_book.specs.BookViews.{BookView, LaneView}
-use Rattle.channel_calls.specs.ChannelPlans.{HasListed, HasUp}
+use Rattle.session_player.specs.xds_book.BookEntries.{Makes, answered_call}
+use Rattle.session_player.specs.xds_book.BookViews.{BookView, LaneView}
+use Rattle.turn_steps.specs.channel_calls.ChannelPlans.{HasListed, HasUp}
 use Rattle.turn_player.specs.TurnPlans.{SeatView, UpView}
 use Rattle.turn_player.specs.DueEvents.{IsOf, MakesTurn, called}
 

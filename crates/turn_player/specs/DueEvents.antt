@@ -5,11 +5,11 @@ use Rattle.call_journal.specs.declared.event.CallerEvent.{CallerEvent}
 use Rattle.call_journal.specs.declared.entry.What.{What}
 use Rattle.call_journal.specs.declared.plan.ListedEvent.{ListedEvent}
 use Rattle.config_assembly.specs.Orders.{Name}
-use Rattle.xds_history.specs.Responses.{answered_kind, refused_in}
-use Rattle.book_hearing.specs.HeardEvents.{IsShortIn, texts_of}
-use Rattle.xds_book.specs.BookEntries.{Makes}
-use Rattle.xds_book.specs.BookViews.{BookView}
-use Rattle.listed_events.specs.ListedEvents.{ListsFor}
+use Rattle.turn_steps.specs.xds_history.Responses.{answered_kind, refused_in}
+use Rattle.turn_steps.specs.book_hearing.HeardEvents.{IsShortIn, texts_of}
+use Rattle.session_player.specs.xds_book.BookEntries.{Makes}
+use Rattle.session_player.specs.xds_book.BookViews.{BookView}
+use Rattle.turn_steps.specs.listed_events.ListedEvents.{ListsFor}
 use Rattle.turn_player.specs.TurnPlans.{SeatView}
 use Rattle.turn_player.specs.declared.due_events.Act.{Act}
 use Rattle.turn_player.specs.declared.due_events.Act.TheVariants as act

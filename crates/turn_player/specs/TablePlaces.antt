@@ -5,9 +5,9 @@ use Rattle.call_journal.specs.declared.plan.ListedEvent.{ListedEvent}
 use Rattle.config_assembly.specs.Orders.{Name}
 use Rattle.book_progress.specs.EndedLines.{IsOpen}
 use Rattle.book_progress.specs.PlayedPlans.{IsListed, IsNext, Step}
-use Rattle.xds_book.specs.BookEntries.{IsLaneOf}
-use Rattle.xds_book.specs.BookViews.{BookView, LaneView}
-use Rattle.channel_calls.specs.ChannelPlans.{HasNext}
+use Rattle.session_player.specs.xds_book.BookEntries.{IsLaneOf}
+use Rattle.session_player.specs.xds_book.BookViews.{BookView, LaneView}
+use Rattle.turn_steps.specs.channel_calls.ChannelPlans.{HasNext}
 use Rattle.turn_player.specs.TurnPlans.{IsUp, SeatView, UpView}
 use Rattle.turn_player.specs.DueEvents.{ListsOf, MakesTurn}
 use Rattle.turn_player.specs.TableSeats.{AreSeated, IsDue}

@@ -4,14 +4,14 @@ use Rattle.call_journal.specs.declared.entry.Entry.{Entry}
 use Rattle.call_journal.specs.declared.entry.What.{What}
 use Rattle.call_journal.specs.declared.plan.Listed.{Listed}
 use Rattle.config_assembly.specs.Orders.{Name}
-use Rattle.xds_history.specs.Responses.{refused_in, refused_texts}
+use Rattle.turn_steps.specs.xds_history.Responses.{refused_in, refused_texts}
 use Rattle.book_progress.specs.ActorCounts.{count_of}
 use Rattle.book_progress.specs.PlayedPlans.{IsListed, IsNextOf, Step}
 use Rattle.book_progress.specs.PlayedPlans as played
 use Rattle.book_progress.specs.ProgressKept.{counts_of}
-use Rattle.xds_book.specs.BookEntries.{IsLaneOf, entry_of}
-use Rattle.xds_book.specs.BookViews.{BookView, LaneView}
-use Rattle.listed_events.specs.ListedEvents.{ListsFor}
+use Rattle.session_player.specs.xds_book.BookEntries.{IsLaneOf, entry_of}
+use Rattle.session_player.specs.xds_book.BookViews.{BookView, LaneView}
+use Rattle.turn_steps.specs.listed_events.ListedEvents.{ListsFor}
 use Rattle.turn_player.specs.TurnPlans.{SeatView}
 use Rattle.turn_player.specs.DueEvents.{told_by}
 

@@ -2,8 +2,8 @@
 use Rattle.std.specs.Prelude.{◌≡◌, ◌<◌, ℕ, List, Option, Some, IfSome}
 use Rattle.call_journal.specs.declared.plan.Listed.{Listed}
 use Rattle.book_progress.specs.ProgressKept.{most_entries}
-use Rattle.xds_book.specs.BookViews.{LaneView, PinnedView}
-use Rattle.channel_calls.specs.ChannelPlans.{HasChannelPlan, HasUp}
+use Rattle.session_player.specs.xds_book.BookViews.{LaneView, PinnedView}
+use Rattle.turn_steps.specs.channel_calls.ChannelPlans.{HasChannelPlan, HasUp}
 
 -- these are the lists of the plan, which a Book with so many authorities plays
 pub record IsTurnPlan (plan : Option (List (List Listed))) (authorities : ℕ) (lists : List (List Listed)) : Type 0 where

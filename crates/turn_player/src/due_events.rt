@@ -1,14 +1,13 @@
 //! What an actor does next.
 ghost use Rattle.std.specs.Prelude.{◌≡◌, ℕ, List, IfOk};
-ghost use Rattle.listed_events.specs.ListedEvents.{TellsOn};
+ghost use Rattle.turn_steps.specs.listed_events.ListedEvents.{TellsOn};
 ghost use Rattle.turn_player.specs.DueEvents.{IsShortOf, ListsOf, event_of, texts_in};
 
 use call_journal::{Listed, ListedEvent};
 use header_match::Patterns;
-use lane_checks::GatedLine;
-use listed_events::{Coming, prepare_event};
 use session_player::shared_event;
 use std::alloc::Global;
+use turn_steps::{Coming, GatedLine, prepare_event};
 use xc_base::{Call, CallId, Memory, Shared};
 
 /// What an actor does: an event of the driver, or the start, a pick or the commit of a call.

@@ -1,7 +1,7 @@
 //! Where the lanes of actors are between their turns.
-use lane_checks::GatedLine;
+use session_player::{Job, Lane, Pinned};
 use std::marker::Model;
-use xds_book::{Job, Lane, Pinned};
+use turn_steps::GatedLine;
 
 /// The token of a pin that is up, with the line in which its call starts.
 #[derive(Drop)]

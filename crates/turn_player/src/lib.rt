@@ -8,5 +8,6 @@ mod turn_places;
 pub mod turn_playing;
 
 pub use lane_seats::Seat;
+pub use session_player::{Book, Job, Lane};
 pub use turn_playing::Table;
 pub use turn_steps::Halt;

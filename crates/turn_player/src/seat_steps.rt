@@ -2,19 +2,18 @@
 ghost use Rattle.std.specs.Prelude.{◌≡◌, ◌≢◌, ◌<◌, [], length, Err, IfSome, None, OnErr, OnOk};
 ghost use Rattle.call_journal.specs.declared.plan.ListedEvent.TheVariants as ListedValue;
 ghost use Rattle.book_progress.specs.ProgressKept.{most_entries};
-ghost use Rattle.channel_calls.specs.ChannelPlans.{HasChannelPlan, HasNext};
+ghost use Rattle.turn_steps.specs.channel_calls.ChannelPlans.{HasChannelPlan, HasNext};
 ghost use Rattle.turn_steps.specs.MadeSteps.{CanStep};
 ghost use Rattle.turn_steps.specs.declared.halts.Halt.TheVariants.{Strange};
 ghost use Rattle.turn_player.specs.DueEvents.{IsOf, MakesTurn, event_of, texts_in};
 
 use crate::due_events::{Act, Due};
 use crate::lane_seats::{Seat, UpCall};
-use lane_checks::GatedLine;
+use session_player::{Book, Job};
 use std::sync::Wait;
 use std::sync::ledger::Ledger;
-use turn_steps::{Halt, commit, drive, hold, pick, pin};
+use turn_steps::{GatedLine, Halt, commit, drive, hold, pick, pin};
 use xc_base::{Call, Shared, Steps};
-use xds_book::{Book, Job};
 
 /// Pins the latest snapshot for a call, whose start is listed next.
 fn start_at<J: Job>(

@@ -2,16 +2,16 @@
 ghost use Rattle.std.specs.Prelude.{◌≡◌, length, IfSome, None, Some, option_copied};
 ghost use Rattle.call_journal.specs.declared.plan.Listed.{Listed as ListedOne};
 ghost use Rattle.book_progress.specs.PlayedPlans.{IsListed};
-ghost use Rattle.channel_calls.specs.ChannelPlans.{HasNext};
+ghost use Rattle.turn_steps.specs.channel_calls.ChannelPlans.{HasNext};
 ghost use Rattle.turn_player.specs.TurnPlans.{IsTurnPlan};
 ghost use Rattle.turn_player.specs.TableSeats.{HasNoLineLeft, IsDone};
 ghost use Rattle.turn_player.specs.TablePlaces.{IsFreePlace, IsPlace, IsSweepListed, IsSweepPlace};
 
 use crate::lane_seats::Seat;
 use call_journal::{Listed, Plan};
-use lane_checks::{has_to_wait, next_listed};
 use report_turns::{EntryTurn, Misplaced};
-use xds_book::{Book, Job, Lane};
+use session_player::{Book, Job, Lane};
+use turn_steps::{has_to_wait, next_listed};
 
 /// Where a turn stands.
 pub(crate) enum Place<'a> {

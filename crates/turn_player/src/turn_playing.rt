@@ -2,8 +2,8 @@
 ghost use Rattle.std.specs.Prelude.{◌≡◌, ◌≢◌, ◌↔◌, ◌⊎◌, ◌++◌, ◌∷◌, [], All, length, map, slice_get, Err, IfOk, IsErr, IsOk, None, Ok, OnErr, OnOk, Some};
 ghost use Rattle.call_journal.specs.declared.plan.ListedEvent.TheVariants as ListedValue;
 ghost use Rattle.book_progress.specs.ProgressKept.{most_entries};
-ghost use Rattle.channel_calls.specs.ChannelPlans.{HasChannelPlan, HasNext};
-ghost use Rattle.listed_events.specs.ListedEvents.{TellsOn};
+ghost use Rattle.turn_steps.specs.channel_calls.ChannelPlans.{HasChannelPlan, HasNext};
+ghost use Rattle.turn_steps.specs.listed_events.ListedEvents.{TellsOn};
 ghost use Rattle.turn_steps.specs.MadeSteps.{CanStep};
 ghost use Rattle.turn_steps.specs.declared.halts.Halt.TheVariants as Halted;
 ghost use Rattle.turn_player.specs.TurnPlans.{IsTurnPlan, SeatView as SeatValue, UpView as UpValue};
@@ -18,13 +18,13 @@ use crate::turn_places::{Place, left_at, place_at};
 use call_journal::{Listed, Plan};
 use header_match::Patterns;
 use report_turns::{EntryTurn, Misplaced};
+use session_player::{Book, Job, Lane};
 use std::alloc::Global;
 use std::marker::Model;
 use std::sync::Wait;
 use std::sync::ledger::Ledger;
 use turn_steps::Halt;
 use xc_base::{List, Memory, Steps};
-use xds_book::{Book, Job, Lane};
 
 /// A seat for each actor of a Book. Contracts see the seats.
 #[derive(Drop)]

@@ -4,19 +4,19 @@ use Rattle.xc_base.specs.declared.call.Call.{Call}
 use Rattle.call_journal.specs.declared.event.CallerEvent.{CallerEvent}
 use Rattle.call_journal.specs.declared.plan.Count.{Count}
 use Rattle.call_journal.specs.declared.plan.Listed.{Listed}
-use Rattle.xds_history.specs.Setting.{Setting}
-use Rattle.xds_history.specs.References.{pinned}
-use Rattle.xds_history.specs.Pages.{pages}
+use Rattle.channel_calls.specs.xds_history.Setting.{Setting}
+use Rattle.channel_calls.specs.xds_history.References.{pinned}
+use Rattle.channel_calls.specs.xds_history.Pages.{pages}
 use Rattle.book_progress.specs.ActorCounts.{count_of}
 use Rattle.book_progress.specs.PlayedPlans.{IsNext, IsNextOf, IsPlayed, Step}
 use Rattle.book_progress.specs.PlayedPlans as played
 use Rattle.book_progress.specs.ProgressKept.{counts_of, most_entries}
 use Rattle.book_progress.proofs.TallyLemmas.{count_is}
-use Rattle.planned_calls.specs.PlannedCalls.{IsNewCall}
-use Rattle.planned_calls.proofs.CallProofs.{next_hold_is_up, next_start_is_new}
+use Rattle.channel_calls.specs.planned_calls.PlannedCalls.{IsNewCall}
+use Rattle.channel_calls.proofs.planned_calls.CallProofs.{next_hold_is_up, next_start_is_new}
 use Rattle.channel_calls.specs.ChannelPlans.{HasChannelPlan}
-use Rattle.xds_book.specs.BookEntries.{IsLaneOf}
-use Rattle.xds_book.specs.BookViews.{BookView, LaneView}
+use Rattle.channel_calls.specs.xds_book.BookEntries.{IsLaneOf}
+use Rattle.channel_calls.specs.xds_book.BookViews.{BookView, LaneView}
 
 -- the next step by the count over the history
 by_count : (plan : List (List Listed)) (lane : LaneView) (line : ℕ) (step : Step) (book : BookView) → IsLaneOf lane book → book.counts ≡ counts_of (length book.counts) book.entries

@@ -2,8 +2,8 @@
 use Rattle.std.specs.Prelude.{◌≡◌, ◌<◌, ℕ, length, false, Option}
 use Rattle.book_progress.specs.EndedLines.{IsOpen}
 use Rattle.book_progress.specs.ProgressKept.{most_entries}
-use Rattle.xds_book.specs.BookEntries.{IsLaneOf}
-use Rattle.xds_book.specs.BookViews.{BookView, LaneView}
+use Rattle.channel_calls.specs.xds_book.BookEntries.{IsLaneOf}
+use Rattle.channel_calls.specs.xds_book.BookViews.{BookView, LaneView}
 
 -- A step of a lane can be made: the lane is of the Book, the line that gates the step, if one does, has ended, and the Book
 -- takes more entries.

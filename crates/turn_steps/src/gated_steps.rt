@@ -2,22 +2,21 @@
 ghost use Rattle.std.specs.Prelude.{◌≡◌, ◌≢◌, ◌<◌, length, Err, IfOk, IsTrue, OnErr, OnOk};
 ghost use Rattle.call_journal.specs.declared.event.CallerEvent.TheVariants as Asking;
 ghost use Rattle.call_journal.specs.declared.plan.ListedEvent.TheVariants as ListedValue;
-ghost use Rattle.xds_history.specs.Setting.{setting_of};
+ghost use Rattle.channel_calls.specs.xds_history.Setting.{setting_of};
 ghost use Rattle.book_progress.specs.EndedLines.{IsOpen};
 ghost use Rattle.book_progress.specs.ProgressKept.{most_entries};
-ghost use Rattle.xds_book.specs.BookEntries.{Drives, IsLaneOf, Makes, answered_call};
+ghost use Rattle.channel_calls.specs.xds_book.BookEntries.{Drives, IsLaneOf, Makes, answered_call};
 ghost use Rattle.channel_calls.specs.ChannelPlans.{HasChannelPlan, HasNext, HasUp};
 ghost use Rattle.channel_calls.specs.LockedBooks.{IsAfterPin};
 ghost use Rattle.turn_steps.specs.MadeSteps.{CanStep};
 ghost use Rattle.turn_steps.specs.declared.halts.Halt.TheVariants.{Strange};
 
 use crate::halts::Halt;
-use lane_checks::{GatedLine, has_to_wait};
+use channel_calls::{Book, GatedLine, Job, Lane, Pinned, has_to_wait};
 use listed_events::Coming;
 use std::sync::Wait;
 use std::sync::ledger::Ledger;
 use xc_base::{Call, CallId, Shared, Steps};
-use xds_book::{Book, Job, Lane, Pinned};
 
 /// Whether a lane is of the Book, and the line that gates its step has ended.
 fn may_go<J: Job>(book: &Book<J>, lane: &Lane<J>, after: Option<u32>) -> bool

@@ -1,6 +1,6 @@
 //! Why a step isn't made.
+use channel_calls::BookFault;
 use std::alloc::{AllocError, AllocFailed};
-use xds_book::BookFault;
 
 /// Why a step isn't made.
 #[derive(Clone, Copy, Debug, PartialEq, Eq)]
@@ -36,7 +36,7 @@ impl<T: Drop> From<AllocFailed<T>> for Halt {
 /// Want of memory comes of nothing else.
 impl From<BookFault> for Halt {
     ghost use Rattle.std.specs.Prelude.{◌≡◌, ◌↔◌};
-    ghost use Rattle.xds_book.specs.declared.book_faults.BookFault.TheVariants.{Memory as BookMemory};
+    ghost use Rattle.channel_calls.specs.xds_book.declared.book_faults.BookFault.TheVariants.{Memory as BookMemory};
     ghost use Rattle.turn_steps.specs.declared.halts.Halt.TheVariants.{Memory};
 
     ghost from_gives = { λ fault halt. (halt ≡ Memory) ↔ (fault ≡ BookMemory) };

@@ -4,5 +4,7 @@
 pub mod gated_steps;
 pub mod halts;
 
+pub use channel_calls::{GatedLine, has_to_wait, next_listed};
 pub use gated_steps::{commit, drive, hold, pick, pin};
 pub use halts::Halt;
+pub use listed_events::{Coming, prepare_event};

@@ -9,12 +9,12 @@ use Rattle.snapshot_store.specs.Tickets.{IsTicketOf}
 use Rattle.call_journal.specs.declared.entry.Entry.{Entry}
 use Rattle.call_journal.specs.declared.plan.Count.{Count}
 use Rattle.call_journal.specs.declared.plan.Listed.{Listed}
-use Rattle.config_assembly.specs.Orders.{Name}
-use Rattle.xds_history.specs.Setting.{Setting}
-use Rattle.xds_history.specs.Pages.{pages}
-use Rattle.xds_history.specs.Responses.{refused_texts}
-use Rattle.xds_history.specs.Right.{Right}
-use Rattle.xds_history.specs.References.{snapshots_of}
+use Rattle.book_driver.specs.config_assembly.Orders.{Name}
+use Rattle.book_calls.specs.xds_history.Setting.{Setting}
+use Rattle.book_calls.specs.xds_history.Pages.{pages}
+use Rattle.book_calls.specs.xds_history.Responses.{refused_texts}
+use Rattle.book_calls.specs.xds_history.Right.{Right}
+use Rattle.book_calls.specs.xds_history.References.{snapshots_of}
 use Rattle.book_progress.specs.PlayedPlans as played
 use Rattle.book_progress.specs.PlayedPlans.{IsPlayed}
 use Rattle.book_progress.specs.ProgressKept.{CountedView, counts_of}

@@ -13,16 +13,16 @@ use Rattle.call_journal.specs.declared.reply.CallerReply.{CallerReply}
 use Rattle.call_journal.specs.declared.entry.What.{What}
 use Rattle.call_journal.specs.declared.entry.Entry.{Entry}
 use Rattle.call_journal.specs.declared.plan.Listed.{Listed}
-use Rattle.config_assembly.specs.Orders.{Name}
+use Rattle.book_driver.specs.config_assembly.Orders.{Name}
 use Rattle.route_match.specs.declared.answer.RouteAnswer.{RouteAnswer}
 use Rattle.route_match.specs.Routes.{route}
-use Rattle.xds_history.specs.Setting.{Setting}
-use Rattle.xds_history.specs.declared.page.Page.{Page}
-use Rattle.xds_history.specs.Page.{latest}
-use Rattle.xds_history.specs.Pages.{pages}
-use Rattle.xds_history.specs.References.{pinned, pins_after, snapshot_at}
-use Rattle.xds_history.specs.Words.{first_some}
-use Rattle.xds_history.specs.Right.{Right, caller_reply, hold_reply, pin_reply}
+use Rattle.book_calls.specs.xds_history.Setting.{Setting}
+use Rattle.book_calls.specs.xds_history.declared.page.Page.{Page}
+use Rattle.book_calls.specs.xds_history.Page.{latest}
+use Rattle.book_calls.specs.xds_history.Pages.{pages}
+use Rattle.book_calls.specs.xds_history.References.{pinned, pins_after, snapshot_at}
+use Rattle.book_calls.specs.xds_history.Words.{first_some}
+use Rattle.book_calls.specs.xds_history.Right.{Right, caller_reply, hold_reply, pin_reply}
 use Rattle.snapshot_store.specs.Tickets.{AreTicketsOf, IsTicketOf}
 use Rattle.call_journal.specs.declared.plan.Count.{Count}
 use Rattle.book_progress.specs.ActorCounts.{count_after}

@@ -10,23 +10,23 @@ use Rattle.xds_name.specs.declared.target.Target.{Target}
 use Rattle.xds_config.specs.declared.config.Config.{Config}
 use Rattle.cluster_tree.specs.declared.snapshot.Snapshot.{Snapshot}
 use Rattle.snapshot_store.specs.Tickets.{AreTicketsOf, IsTicketOf, values_of}
-use Rattle.resource_check.specs.declared.delivery.Prepared.{Prepared}
+use Rattle.book_calls.specs.resource_check.declared.delivery.Prepared.{Prepared}
 use Rattle.call_journal.specs.declared.event.DriverEvent.{DriverEvent}
 use Rattle.call_journal.specs.declared.reply.DriverReply.{DriverReply}
 use Rattle.call_journal.specs.declared.entry.What.{What}
 use Rattle.call_journal.specs.declared.entry.Entry.{Entry}
-use Rattle.config_assembly.specs.Orders.{Name}
-use Rattle.xds_history.specs.Setting.{Setting, setting_of}
-use Rattle.xds_history.specs.Page.{config_now, latest_number}
-use Rattle.xds_history.specs.Pages.{driven, page_of, pages}
-use Rattle.xds_history.specs.References.{references, snapshots_of}
-use Rattle.xds_history.specs.Right.{Right}
-use Rattle.xds_history.specs.HistoryLaws.{is_report}
+use Rattle.book_driver.specs.config_assembly.Orders.{Name}
+use Rattle.book_calls.specs.xds_history.Setting.{Setting, setting_of}
+use Rattle.book_calls.specs.xds_history.Page.{config_now, latest_number}
+use Rattle.book_calls.specs.xds_history.Pages.{driven, page_of, pages}
+use Rattle.book_calls.specs.xds_history.References.{references, snapshots_of}
+use Rattle.book_calls.specs.xds_history.Right.{Right}
+use Rattle.book_calls.specs.xds_history.HistoryLaws.{is_report}
 use Rattle.book_calls.specs.CallsKept.{AreCallsAt}
 use Rattle.book_calls.specs.declared.calls.Calls.{Calls}
-use Rattle.book_trees.specs.TreesKept.{AreTreesAt}
-use Rattle.book_trees.specs.declared.reported_trees.ReportedTrees.{ReportedTrees}
-use Rattle.book_trees.proofs.DueNumberLemmas.{numbers_are_few}
+use Rattle.book_driver.specs.book_trees.TreesKept.{AreTreesAt}
+use Rattle.book_driver.specs.book_trees.declared.reported_trees.ReportedTrees.{ReportedTrees}
+use Rattle.book_driver.proofs.book_trees.DueNumberLemmas.{numbers_are_few}
 use Rattle.book_picks.specs.TurnsKept.{AreTurnsAt}
 use Rattle.book_picks.specs.declared.kept_turns.Turns.{Turns}
 use Rattle.book_picks.proofs.ServingLemmas.{marks_tell_served, quiet_leaves, trees_serve_all}

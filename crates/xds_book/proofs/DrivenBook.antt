@@ -7,23 +7,23 @@ use Rattle.xds_bootstrap.specs.declared.bootstrap.Bootstrap.{Bootstrap}
 use Rattle.xds_name.specs.declared.target.Target.{Target}
 use Rattle.cluster_tree.specs.declared.snapshot.Snapshot.{Snapshot}
 use Rattle.snapshot_store.specs.Tickets.{AreTicketsOf, IsTicketOf, values_of}
-use Rattle.resource_check.specs.declared.delivery.Prepared.{Prepared}
+use Rattle.book_calls.specs.resource_check.declared.delivery.Prepared.{Prepared}
 use Rattle.call_journal.specs.declared.event.DriverEvent.{DriverEvent}
 use Rattle.call_journal.specs.declared.reply.DriverReply.{DriverReply}
 use Rattle.call_journal.specs.declared.entry.What.{What}
 use Rattle.call_journal.specs.declared.entry.Entry.{Entry}
 use Rattle.call_journal.specs.declared.plan.Count.{Count}
 use Rattle.call_journal.specs.declared.plan.Listed.{Listed}
-use Rattle.config_assembly.specs.Orders.{Name}
-use Rattle.xds_history.specs.Setting.{Setting, setting_of}
-use Rattle.xds_history.specs.Page.{latest_number}
-use Rattle.xds_history.specs.Pages.{driven, page_of, pages}
-use Rattle.xds_history.specs.References.{references}
-use Rattle.xds_history.specs.Right.{Right}
+use Rattle.book_driver.specs.config_assembly.Orders.{Name}
+use Rattle.book_calls.specs.xds_history.Setting.{Setting, setting_of}
+use Rattle.book_calls.specs.xds_history.Page.{latest_number}
+use Rattle.book_calls.specs.xds_history.Pages.{driven, page_of, pages}
+use Rattle.book_calls.specs.xds_history.References.{references}
+use Rattle.book_calls.specs.xds_history.Right.{Right}
 use Rattle.book_calls.specs.CallsKept.{AreCallsAt}
 use Rattle.book_calls.specs.declared.calls.Calls.{Calls}
 use Rattle.book_calls.proofs.CallsProofs.{drivers_leave}
-use Rattle.book_trees.proofs.DueNumberLemmas.{latest_shows_what_stands}
+use Rattle.book_driver.proofs.book_trees.DueNumberLemmas.{latest_shows_what_stands}
 use Rattle.book_picks.specs.declared.kept_turns.Turns.{Turns}
 use Rattle.book_driver.specs.DriverKept.{IsDueAt, IsStepAt, reply_in}
 use Rattle.book_driver.specs.ShownTrees.{number_in, snapshot_by}

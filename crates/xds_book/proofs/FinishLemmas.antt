@@ -8,10 +8,10 @@ use Rattle.snapshot_store.specs.Tickets.{values_of}
 use Rattle.call_journal.specs.declared.entry.Entry.{Entry}
 use Rattle.call_journal.specs.declared.plan.Count.{Count}
 use Rattle.call_journal.specs.declared.plan.Listed.{Listed}
-use Rattle.xds_history.specs.Setting.{Setting}
-use Rattle.xds_history.specs.Pages.{pages}
-use Rattle.xds_history.specs.declared.page.Page.{Page}
-use Rattle.xds_history.specs.References.{snapshots_of}
+use Rattle.book_calls.specs.xds_history.Setting.{Setting}
+use Rattle.book_calls.specs.xds_history.Pages.{pages}
+use Rattle.book_calls.specs.xds_history.declared.page.Page.{Page}
+use Rattle.book_calls.specs.xds_history.References.{snapshots_of}
 use Rattle.book_progress.specs.ActorCounts.{actor_entries, count_of}
 use Rattle.book_progress.specs.PlayedPlans.{HasPlayed, IsPlayed}
 use Rattle.book_progress.specs.ProgressKept.{counts_of}

@@ -8,16 +8,16 @@ use Rattle.xds_bootstrap.specs.declared.bootstrap.Bootstrap.{Bootstrap}
 use Rattle.xds_name.specs.declared.target.Target.{Target}
 use Rattle.cluster_tree.specs.declared.snapshot.Snapshot.{Snapshot}
 use Rattle.call_journal.specs.declared.entry.Entry.{Entry}
-use Rattle.config_assembly.specs.Orders.{Name}
-use Rattle.xds_history.specs.Setting.{setting_of}
-use Rattle.xds_history.specs.Page.{latest}
-use Rattle.xds_history.specs.Pages.{pages}
-use Rattle.xds_history.specs.References.{held}
-use Rattle.xds_history.specs.Right.{Right, shown}
+use Rattle.book_driver.specs.config_assembly.Orders.{Name}
+use Rattle.book_calls.specs.xds_history.Setting.{setting_of}
+use Rattle.book_calls.specs.xds_history.Page.{latest}
+use Rattle.book_calls.specs.xds_history.Pages.{pages}
+use Rattle.book_calls.specs.xds_history.References.{held}
+use Rattle.book_calls.specs.xds_history.Right.{Right, shown}
 use Rattle.book_calls.specs.CallsKept.{AreCallsAt}
 use Rattle.book_calls.specs.declared.calls.Calls.{Calls}
-use Rattle.book_trees.specs.TreesKept.{present}
-use Rattle.book_trees.proofs.DueNumberLemmas.{latest_shows_what_stands}
+use Rattle.book_driver.specs.book_trees.TreesKept.{present}
+use Rattle.book_driver.proofs.book_trees.DueNumberLemmas.{latest_shows_what_stands}
 use Rattle.book_picks.specs.TurnsKept.{IsPickAt}
 use Rattle.book_progress.specs.ProgressKept.{most_entries}
 

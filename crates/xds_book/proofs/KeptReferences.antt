@@ -1,9 +1,9 @@
 -- What a right history keeps of the clusters that calls refer to, told of a whole history.
 use Rattle.std.proofs.Common.{List, ◌∷◌, ◌++◌, subst}
 use Rattle.call_journal.specs.declared.entry.Entry.{Entry}
-use Rattle.xds_history.specs.Setting.{Setting}
-use Rattle.xds_history.specs.Right.{Right}
-use Rattle.xds_history.proofs.KeepProofs.{latest_has_references, published_has_held, published_has_pinned, right_past, whole_has_no_others}
+use Rattle.book_calls.specs.xds_history.Setting.{Setting}
+use Rattle.book_calls.specs.xds_history.Right.{Right}
+use Rattle.book_calls.proofs.xds_history.KeepProofs.{latest_has_references, published_has_held, published_has_pinned, right_past, whole_has_no_others}
 use Rattle.xds_book.specs.ReferencesKept.{IsEntryOf, KeepsHeld, KeepsNoOthers, KeepsPinned, LatestHasThem}
 
 right_at : (s : Setting) (history : List Entry) (e : Entry) (past : List Entry) → (at : IsEntryOf history e past) → Right s history → Right s (at.later ++ e ∷ past)

@@ -9,7 +9,7 @@ use Rattle.call_journal.specs.declared.plan.Count.{Count}
 use Rattle.book_progress.specs.ActorCounts.{count_after, count_of}
 use Rattle.book_progress.specs.ProgressKept.{counts_of}
 use Rattle.book_progress.proofs.TallyLemmas.{count_is}
-use Rattle.config_assembly.specs.Orders.{Name}
+use Rattle.book_driver.specs.config_assembly.Orders.{Name}
 use Rattle.xds_book.specs.BookViews.{LaneView}
 use Rattle.xds_book.specs.BookEntries.{entry_of, first_lane}
 

@@ -15,18 +15,18 @@ use Rattle.call_journal.specs.declared.entry.What.{What}
 use Rattle.call_journal.specs.declared.entry.Entry.{Entry}
 use Rattle.call_journal.specs.declared.plan.Count.{Count}
 use Rattle.call_journal.specs.declared.plan.Listed.{Listed}
-use Rattle.config_assembly.specs.Orders.{Name}
-use Rattle.xds_history.specs.Setting.{Setting}
-use Rattle.xds_history.specs.Pages.{pages}
-use Rattle.xds_history.specs.Responses.{refused_in, refused_texts}
-use Rattle.xds_history.specs.Right.{IsReply, Right, caller_reply}
+use Rattle.book_driver.specs.config_assembly.Orders.{Name}
+use Rattle.book_calls.specs.xds_history.Setting.{Setting}
+use Rattle.book_calls.specs.xds_history.Pages.{pages}
+use Rattle.book_calls.specs.xds_history.Responses.{refused_in, refused_texts}
+use Rattle.book_calls.specs.xds_history.Right.{IsReply, Right, caller_reply}
 use Rattle.book_progress.specs.ActorCounts.{count_of}
 use Rattle.book_progress.specs.PlayedPlans.{IsNext, IsPlayed, step_in}
 use Rattle.book_progress.specs.PlayedPlans as played
 use Rattle.book_progress.specs.ProgressKept.{CountedView, counts_of, most_entries}
 use Rattle.book_progress.proofs.PlayLemmas.{play_goes_on}
 use Rattle.book_progress.proofs.TallyLemmas.{count_is}
-use Rattle.xds_history.specs.References.{snapshots_of}
+use Rattle.book_calls.specs.xds_history.References.{snapshots_of}
 use Rattle.xds_book.specs.BookEntries.{entry_of}
 use Rattle.xds_book.specs.BookKept.{HasActors, IsBook, IsBy, IsLawfulShown}
 

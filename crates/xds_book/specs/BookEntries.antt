@@ -5,7 +5,7 @@ use Rattle.boxcar.specs.Table.{Where}
 use Rattle.xc_base.specs.declared.call.Call.{Call}
 use Rattle.xc_base.specs.declared.names.CallId.{CallId}
 use Rattle.cluster_tree.specs.declared.snapshot.Snapshot.{Snapshot}
-use Rattle.resource_check.specs.declared.delivery.Prepared.{Prepared}
+use Rattle.book_calls.specs.resource_check.declared.delivery.Prepared.{Prepared}
 use Rattle.call_journal.specs.declared.event.DriverEvent.{DriverEvent}
 use Rattle.call_journal.specs.declared.event.CallerEvent.{CallerEvent}
 use Rattle.call_journal.specs.declared.reply.DriverReply.{DriverReply}
@@ -13,15 +13,15 @@ use Rattle.call_journal.specs.declared.reply.CallerReply.{CallerReply}
 use Rattle.call_journal.specs.declared.entry.What.{What}
 use Rattle.call_journal.specs.declared.entry.Entry.{Entry}
 use Rattle.route_match.specs.declared.answer.RouteAnswer.{RouteAnswer}
-use Rattle.xds_history.specs.Setting.{Setting}
-use Rattle.xds_history.specs.Responses.{answered_kind, refused_in}
-use Rattle.xds_history.specs.Page.{latest}
-use Rattle.xds_history.specs.References.{pinned, references}
-use Rattle.xds_history.specs.Pages.{pages}
-use Rattle.xds_history.specs.Right.{caller_reply}
-use Rattle.xds_history.specs.HistoryLaws.{is_call}
-use Rattle.book_streams.specs.StreamsLaws.{authority_in}
-pub use Rattle.book_hearing.specs.HeardEvents.{IsPreparedFor}
+use Rattle.book_calls.specs.xds_history.Setting.{Setting}
+use Rattle.book_calls.specs.xds_history.Responses.{answered_kind, refused_in}
+use Rattle.book_calls.specs.xds_history.Page.{latest}
+use Rattle.book_calls.specs.xds_history.References.{pinned, references}
+use Rattle.book_calls.specs.xds_history.Pages.{pages}
+use Rattle.book_calls.specs.xds_history.Right.{caller_reply}
+use Rattle.book_calls.specs.xds_history.HistoryLaws.{is_call}
+use Rattle.book_driver.specs.book_streams.StreamsLaws.{authority_in}
+pub use Rattle.book_driver.specs.book_hearing.HeardEvents.{IsPreparedFor}
 pub use Rattle.book_driver.specs.Renewals.{texts_by as texts_for}
 use Rattle.book_progress.specs.ActorCounts.{count_after, no_count}
 use Rattle.book_progress.specs.ProgressKept.{counts_of, most_entries}

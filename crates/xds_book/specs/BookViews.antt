@@ -13,8 +13,8 @@ use Rattle.xds_config.specs.declared.config.Front.{Front}
 use Rattle.cluster_tree.specs.declared.snapshot.Snapshot.{Snapshot}
 use Rattle.call_journal.specs.declared.entry.Entry.{Entry}
 use Rattle.call_journal.specs.declared.plan.Count.{Count}
-use Rattle.config_assembly.specs.Orders.{Name}
-pub use Rattle.xds_history.specs.References.{snapshots_of}
+use Rattle.book_driver.specs.config_assembly.Orders.{Name}
+pub use Rattle.book_calls.specs.xds_history.References.{snapshots_of}
 
 -- an actor, how far it has come, and the pattern texts that were refused in its entries, in order
 pub record LaneView : Type 0 where

@@ -4,9 +4,9 @@ use Rattle.boxcar.specs.Table.{Shelves}
 use Rattle.xc_base.specs.declared.names.CallId.{CallId}
 use Rattle.xc_base.specs.declared.call.Call.{Call}
 use Rattle.snapshot_store.specs.Tickets.{IsTicketOf}
-use Rattle.xds_history.specs.Setting.{Setting}
-use Rattle.xds_history.specs.Pages.{pages}
-use Rattle.xds_history.specs.References.{pinned, snapshot_at}
+use Rattle.book_calls.specs.xds_history.Setting.{Setting}
+use Rattle.book_calls.specs.xds_history.Pages.{pages}
+use Rattle.book_calls.specs.xds_history.References.{pinned, snapshot_at}
 use Rattle.book_calls.specs.declared.pinning.Pinning.{Pinning}
 use Rattle.xds_book.specs.BookViews.{BookView, PinnedView}
 use Rattle.xds_book.specs.BookEntries.{own_ticket}

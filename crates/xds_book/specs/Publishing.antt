@@ -9,10 +9,10 @@ use Rattle.call_journal.specs.declared.event.DriverEvent.{DriverEvent}
 use Rattle.call_journal.specs.declared.reply.DriverReply.{DriverReply}
 use Rattle.call_journal.specs.declared.entry.What.{What}
 use Rattle.call_journal.specs.declared.entry.Entry.{Entry}
-use Rattle.xds_history.specs.Setting.{Setting}
-use Rattle.xds_history.specs.Page.{trees_now}
-use Rattle.xds_history.specs.Pages.{driven, page_of, pages}
-use Rattle.xds_history.specs.Right.{Right}
+use Rattle.book_calls.specs.xds_history.Setting.{Setting}
+use Rattle.book_calls.specs.xds_history.Page.{trees_now}
+use Rattle.book_calls.specs.xds_history.Pages.{driven, page_of, pages}
+use Rattle.book_calls.specs.xds_history.Right.{Right}
 use Rattle.book_calls.specs.CallsKept.{AreCallsAt}
 use Rattle.book_calls.specs.declared.calls.Calls.{Calls}
 use Rattle.book_driver.specs.ShownTrees.{snapshot_by}

@@ -4,13 +4,13 @@ use Rattle.xc_base.specs.declared.names.CallId.{CallId}
 use Rattle.xds_config.specs.declared.config.Config.{Config}
 use Rattle.cluster_tree.specs.declared.snapshot.Snapshot.{Snapshot}
 use Rattle.call_journal.specs.declared.entry.Entry.{Entry}
-use Rattle.config_assembly.specs.Orders.{Name, name_cmp, sorted}
-use Rattle.config_assembly.specs.Front.{names_of_front}
-use Rattle.xds_history.specs.Setting.{Setting}
-use Rattle.xds_history.specs.Page.{config_now, latest}
-use Rattle.xds_history.specs.References.{held, pinned, references}
-use Rattle.xds_history.specs.Pages.{pages}
-use Rattle.xds_history.specs.HistoryLaws.{HasCluster, HasThoseOf, LatestHas, is_whole, published}
+use Rattle.book_driver.specs.config_assembly.Orders.{Name, name_cmp, sorted}
+use Rattle.book_driver.specs.config_assembly.Front.{names_of_front}
+use Rattle.book_calls.specs.xds_history.Setting.{Setting}
+use Rattle.book_calls.specs.xds_history.Page.{config_now, latest}
+use Rattle.book_calls.specs.xds_history.References.{held, pinned, references}
+use Rattle.book_calls.specs.xds_history.Pages.{pages}
+use Rattle.book_calls.specs.xds_history.HistoryLaws.{HasCluster, HasThoseOf, LatestHas, is_whole, published}
 
 -- an entry of a history, with those before it
 pub record IsEntryOf (history : List Entry) (e : Entry) (past : List Entry) : Type 0 where

@@ -2,10 +2,10 @@
 ghost use Rattle.std.specs.Prelude.{◌≡◌, ◌↔◌, ◌<◌, ◌≢◌, All, IfErr, IfOk, IfSome, IsTrue, OnErr, OnOk, Err, None, false, option_copied, option_map};
 ghost use Rattle.route_match.specs.Routes.{route};
 ghost use Rattle.call_journal.specs.declared.event.CallerEvent.{CallerEvent as Asking};
-ghost use Rattle.xds_history.specs.Setting.{setting_of};
-ghost use Rattle.xds_history.specs.Pages.{pages};
-ghost use Rattle.xds_history.specs.References.{held, pinned};
-ghost use Rattle.xds_history.specs.Right.{caller_reply, commit_reply, pin_reply};
+ghost use Rattle.book_calls.specs.xds_history.Setting.{setting_of};
+ghost use Rattle.book_calls.specs.xds_history.Pages.{pages};
+ghost use Rattle.book_calls.specs.xds_history.References.{held, pinned};
+ghost use Rattle.book_calls.specs.xds_history.Right.{caller_reply, commit_reply, pin_reply};
 ghost use Rattle.book_progress.specs.PlayedPlans.{IsNext};
 ghost use Rattle.book_progress.specs.PlayedPlans as played;
 ghost use Rattle.book_calls.specs.CallsKept.{AreOwn, IsRouted};

@@ -7,18 +7,18 @@ ghost use Rattle.xds_name.specs.Names.{resource_key};
 ghost use Rattle.route_match.specs.Routes.{route};
 ghost use Rattle.snapshot_store.specs.Tickets.{values_of};
 ghost use Rattle.call_journal.specs.declared.reply.CallerReply.{CallerReply as CallerReplyValue};
-ghost use Rattle.xds_history.specs.Setting.{setting_of};
-ghost use Rattle.xds_history.specs.Page.{latest};
-ghost use Rattle.xds_history.specs.Pages.{pages};
-ghost use Rattle.xds_history.specs.References.{held, pinned};
-ghost use Rattle.xds_history.specs.Responses.{refused_texts};
-ghost use Rattle.xds_history.specs.Right.{Right, caller_reply};
-ghost use Rattle.xds_history.specs.HistoryLaws.{is_report};
+ghost use Rattle.book_calls.specs.xds_history.Setting.{setting_of};
+ghost use Rattle.book_calls.specs.xds_history.Page.{latest};
+ghost use Rattle.book_calls.specs.xds_history.Pages.{pages};
+ghost use Rattle.book_calls.specs.xds_history.References.{held, pinned};
+ghost use Rattle.book_calls.specs.xds_history.Responses.{refused_texts};
+ghost use Rattle.book_calls.specs.xds_history.Right.{Right, caller_reply};
+ghost use Rattle.book_calls.specs.xds_history.HistoryLaws.{is_report};
 ghost use Rattle.book_progress.specs.EndedLines.{has_ended};
 ghost use Rattle.book_progress.specs.PlayedPlans.{IsNext, IsPlayed, Step};
 ghost use Rattle.book_progress.specs.PlayedPlans as played;
 ghost use Rattle.book_progress.specs.ProgressKept.{counts_of, most_entries};
-ghost use Rattle.xds_history.specs.References.{snapshots_of};
+ghost use Rattle.book_calls.specs.xds_history.References.{snapshots_of};
 ghost use Rattle.xds_book.specs.BookEntries.{Drives, HasPlaceOf, IsFull, IsKnownTo, IsLaneOf, IsPreparedFor, IsAnswerIn, IsStill, IsTokenOf, Makes, MakesNone, answered_call, fault_of, first_book, first_lane, is_spent_after, own_ticket};
 ghost use Rattle.xds_book.specs.BookKept.{HasActors, HasComeTo, IsBy};
 ghost use Rattle.call_clusters.specs.CallCourses.{HavePins, KeepsClusters};
@@ -27,13 +27,12 @@ ghost use Rattle.xds_book.specs.ReferencesKept.{KeepsHeld, KeepsNoOthers, KeepsP
 use crate::book_faults::BookFault;
 use crate::jobs::Job;
 use crate::lanes::{Lane, new_lanes};
-use book_calls::Calls;
+use book_calls::{Calls, Prepared};
 use book_driver::Driver;
 use book_picks::Turns;
 use book_progress::CountedJournal;
 use call_journal::{Count, Journal};
 use cluster_tree::Snapshot;
-use resource_check::Prepared;
 use route_match::RouteAnswer;
 use snapshot_store::{Archive, History, Ticket};
 use std::alloc::{AllocError, Global};
@@ -61,7 +60,7 @@ pub struct Book<J: Job> {
 }
 
 impl<J: Job> Model for Book<J> {
-    ghost use Rattle.xds_history.specs.Setting.{setting_of};
+    ghost use Rattle.book_calls.specs.xds_history.Setting.{setting_of};
     ghost use Rattle.xds_book.specs.BookViews.{BookView};
     ghost use Rattle.xds_book.specs.BookKept.{IsKeptIn};
 

@@ -8,5 +8,6 @@ pub mod responses;
 pub mod turns;
 
 pub use page::{ClusterTrees, Glimpse, Mark, Page, PriorityState, Tree, Watched};
+pub use resource_check::{Delivery, Prepared, Reading};
 pub use responses::Told;
 pub use turns::Turn;

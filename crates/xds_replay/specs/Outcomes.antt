@@ -12,7 +12,7 @@ use Rattle.xds_history.specs.Setting.{setting_of}
 use Rattle.legal_history.specs.Legal.{Legal}
 use Rattle.text_law.specs.TextLaw.{text_of}
 use Rattle.report_law.specs.ReportLaw.{totals}
-use Rattle.session_player.specs.Stages.{Refuses}
+use Rattle.threaded_player.specs.session_player.Stages.{Refuses}
 use Rattle.program_status.specs.declared.commands.Command.{Command}
 use Rattle.program_status.specs.declared.statuses.Status.{Status}
 use Rattle.program_status.specs.declared.statuses.Status.TheVariants as status

@@ -1,7 +1,7 @@
 //! The gate of the program.
-use channel_calls::Gate;
 use route_match::RouteAnswer;
 use std::sync::Wait;
+use threaded_player::Gate;
 use xc_base::CallId;
 
 /// A gate that does nothing: no call is held up between its pin and its hold, and nobody is told of lines.

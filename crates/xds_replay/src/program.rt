@@ -18,7 +18,6 @@ ghost use Rattle.program_status.specs.Commands.{command_of};
 ghost use Rattle.program_status.specs.declared.commands.Command.{Command as Asked};
 ghost use Rattle.xds_replay.specs.Outcomes.{IsBegun, IsDone, IsWritten, WritesNothing, totals_of};
 
-use channel_calls::Gate;
 use header_match::Patterns;
 use program_status::{Command, Status, command_of, read_status, status_of, write_status};
 use report_law::{one_report, one_totals};
@@ -26,12 +25,11 @@ use report_writer::write_report;
 use session_generator::write_session;
 use session_input::{generated_input, session_in};
 use session_lines::Session;
-use session_player::Played;
 use std::alloc::Global;
 use std::mem;
 use std::sync::Wait;
 use std::thread::Threads;
-use threaded_player::play_on_threads;
+use threaded_player::{Gate, Played, play_on_threads};
 use totals_writer::write_totals;
 use xc_base::{Sink, Source, read_all};
 

@@ -12,16 +12,16 @@ use Rattle.xds_config.specs.declared.route_values.Action.{Action}
 use Rattle.xds_config.specs.declared.cluster_values.Shape.{Shape}
 use Rattle.aggregate_expand.specs.Leaves.{goes_on, ends, leaves_within}
 use Rattle.ads_stream.specs.declared.verdict.Verdict.{Verdict}
-use Rattle.call_journal.specs.declared.event.BytesHow.{BytesHow}
-use Rattle.call_journal.specs.declared.event.DriverEvent.{DriverEvent}
-use Rattle.call_journal.specs.declared.entry.Entry.{Entry}
+use Rattle.xds_history.specs.call_journal.declared.event.BytesHow.{BytesHow}
+use Rattle.xds_history.specs.call_journal.declared.event.DriverEvent.{DriverEvent}
+use Rattle.xds_history.specs.call_journal.declared.entry.Entry.{Entry}
 use Rattle.grpc_framing.specs.Cut.{cut, cut_within, first_frame}
 use Rattle.grpc_framing.specs.Framing.{fault_at}
 use Rattle.session_lines.specs.declared.session.DriverLine.{DriverLine}
 use Rattle.session_lines.specs.declared.session.Work.{Work}
 use Rattle.session_lines.specs.declared.session.Line.{Line}
 use Rattle.session_script.specs.Plan.{driver_list, lines_by, entries_by, ArePlayed, all, AreListed}
-use Rattle.config_assembly.specs.Orders.{Name}
+use Rattle.xds_history.specs.config_assembly.Orders.{Name}
 use Rattle.xds_history.specs.Setting.{Setting}
 use Rattle.legal_history.specs.Legal.{AreOpen, AreStarted, EndsInSweep, is_read}
 use Rattle.legal_history.proofs.Rows.{a_node, response, setting_with, key_from, driven, on_line, replayed, as_made, snapshots, Step, steps, AreNumbered, at_most}

@@ -15,13 +15,13 @@ use Rattle.xds_config.specs.declared.endpoint_values.EndpointValue.{EndpointValu
 use Rattle.route_match.specs.declared.answer.RouteAnswer.{RouteAnswer}
 use Rattle.aggregate_expand.specs.Leaves.{goes_on, ends, leaves_within}
 use Rattle.weighted_lb.specs.declared.picker.PickBody.{PickBody}
-use Rattle.cluster_tree.specs.declared.snapshot.Snapshot.{Snapshot}
+use Rattle.xds_history.specs.cluster_tree.declared.snapshot.Snapshot.{Snapshot}
 use Rattle.ads_stream.specs.declared.verdict.Verdict.{Verdict}
-use Rattle.call_journal.specs.declared.event.BytesHow.{BytesHow}
-use Rattle.call_journal.specs.declared.event.DriverEvent.{DriverEvent}
-use Rattle.call_journal.specs.declared.event.CallerEvent.{CallerEvent}
-use Rattle.call_journal.specs.declared.reply.CallerReply.{CallerReply}
-use Rattle.call_journal.specs.declared.entry.Entry.{Entry}
+use Rattle.xds_history.specs.call_journal.declared.event.BytesHow.{BytesHow}
+use Rattle.xds_history.specs.call_journal.declared.event.DriverEvent.{DriverEvent}
+use Rattle.xds_history.specs.call_journal.declared.event.CallerEvent.{CallerEvent}
+use Rattle.xds_history.specs.call_journal.declared.reply.CallerReply.{CallerReply}
+use Rattle.xds_history.specs.call_journal.declared.entry.Entry.{Entry}
 use Rattle.grpc_framing.specs.Cut.{cut, cut_within, first_frame}
 use Rattle.grpc_framing.specs.Framing.{fault_at}
 use Rattle.session_lines.specs.declared.session.DriverLine.{DriverLine}
@@ -29,7 +29,7 @@ use Rattle.session_lines.specs.declared.session.Act.{Act}
 use Rattle.session_lines.specs.declared.session.Work.{Work}
 use Rattle.session_lines.specs.declared.session.Line.{Line}
 use Rattle.session_script.specs.Plan.{driver_list, lines_by, entries_by, ArePlayed, all, next, AreListed}
-use Rattle.config_assembly.specs.Orders.{Name}
+use Rattle.xds_history.specs.config_assembly.Orders.{Name}
 use Rattle.xds_history.specs.Setting.{Setting}
 use Rattle.xds_history.specs.Right.{shown}
 use Rattle.legal_history.specs.Legal.{AreOpen, AreStarted, EndsInSweep, is_read}

@@ -1,5 +1,5 @@
 use Rattle.std.proofs.Common.{subst}
-use Rattle.xds_history.specs.Pages.{pages}
+use Rattle.book_trees.specs.xds_history.Pages.{pages}
 use Rattle.book_driver.specs.ShownTrees.{AreSeen}
 use Rattle.book_driver.proofs.PublishedLemmas.{some_due}
 use Rattle.book_driver.proofs.configured_trees.due.Goals as goal

@@ -2,8 +2,8 @@ use Rattle.std.proofs.Common.{List, sym, ap, ◌∙◌, subst}
 use Rattle.std.specs.Prelude.{IfOk, option_map, unwrap_or}
 use Rattle.xc_base.specs.declared.names.Key.{Key}
 use Rattle.dep_manager.specs.KeptAssemblies.{AreChanges}
-use Rattle.xds_history.specs.Responses.{answered}
-use Rattle.book_fates.specs.Delivered.{HasTouched, delivered_in}
+use Rattle.book_trees.specs.xds_history.Responses.{answered}
+use Rattle.driver_step.specs.book_fates.Delivered.{HasTouched, delivered_in}
 use Rattle.book_driver.proofs.ChangeLemmas.{told_changes, untold_changes}
 use Rattle.book_driver.proofs.MarkLemmas.{none_brought, on_ok, response_marks}
 use Rattle.book_driver.proofs.marking.mark.Goals as goal

@@ -1,5 +1,5 @@
 use Rattle.std.proofs.Common.{[], sym, ap, ◌∙◌, subst}
-use Rattle.book_fates.specs.FatesKept.{IsMarkedAt, is_moment}
+use Rattle.driver_step.specs.book_fates.FatesKept.{IsMarkedAt, is_moment}
 use Rattle.book_driver.proofs.ChangeLemmas.{out_changes, same_changes}
 use Rattle.book_driver.proofs.MarkLemmas.{moment_marks}
 use Rattle.book_driver.proofs.marking.pass_or_turn.Goals as goal

@@ -1,7 +1,7 @@
 use Rattle.std.proofs.Common.{rules, List, length, subst, sym}
 use Rattle.call_journal.specs.declared.plan.Listed.{Listed}
-use Rattle.turn_player.specs.TurnPlans.{SeatView}
-use Rattle.xds_book.specs.BookKept.{HasActors}
+use Rattle.report_replay.specs.turn_player.TurnPlans.{SeatView}
+use Rattle.report_replay.specs.xds_book.BookKept.{HasActors}
 use Rattle.report_replay.specs.ReplayedTurns.{HasReplayed, IsLegalReplay, IsPlayedByAny, IsUnderWay}
 use Rattle.judged_session.proofs.PlayedLemmas.{any_none, any_some, beside_none, beside_some, play_begins}
 use Rattle.judged_session.proofs.PlayedOutLemmas.{all_played, first_is_under_way}

@@ -1,7 +1,7 @@
 use Rattle.std.proofs.Common.{◌≡◌, ◌+◌, List}
-use Rattle.session_player.proofs.ScriptLemmas.{actors_of}
-use Rattle.xds_book.specs.BookEntries.{first_book}
-use Rattle.xds_book.specs.BookViews.{BookView, LaneView}
+use Rattle.report_replay.proofs.session_player.ScriptLemmas.{actors_of}
+use Rattle.report_replay.specs.xds_book.BookEntries.{first_book}
+use Rattle.report_replay.specs.xds_book.BookViews.{BookView, LaneView}
 use Rattle.report_replay.proofs.PlayLemmas.{if_ok}
 use Rattle.judged_session.specs.JudgedTurns.{IsFirst}
 use Rattle.judged_session.proofs.session_book.begin_book.Goals as goal

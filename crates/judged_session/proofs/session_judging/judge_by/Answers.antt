@@ -1,10 +1,10 @@
 use Rattle.std.proofs.Common.{◌≡◌, ◌⊎◌, ◌<◌, ℕ, List, All, Option, None, subst}
 use Rattle.call_journal.specs.declared.entry.Entry.{Entry}
-use Rattle.legal_history.specs.Legal.{Legal}
-use Rattle.text_law.specs.TextLaw.{text_of}
-use Rattle.turn_law.specs.TurnLaw.{IsTurn}
-use Rattle.alike_law.specs.AlikeTexts.{PartsAt}
-use Rattle.report_compare.specs.declared.mistakes.Mistake.{Mistake}
+use Rattle.report_replay.specs.legal_history.Legal.{Legal}
+use Rattle.report_replay.specs.text_law.TextLaw.{text_of}
+use Rattle.report_replay.specs.turn_law.TurnLaw.{IsTurn}
+use Rattle.report_replay.specs.alike_law.AlikeTexts.{PartsAt}
+use Rattle.report_replay.specs.report_compare.declared.mistakes.Mistake.{Mistake}
 use Rattle.report_replay.specs.ReplayedTurns.{IsBeyond}
 use Rattle.report_replay.proofs.PlayLemmas.{if_ok}
 use Rattle.judged_session.specs.JudgedTurns.{IsAnyOutcome, IsBesideOutcome, IsWhole}

@@ -2,12 +2,12 @@ use Rattle.std.proofs.Common.{◌≡◌, ℕ, List, All, Option, None, Ok}
 use Rattle.std.specs.Prelude.{IfSome}
 use Rattle.call_journal.specs.declared.entry.Entry.{Entry}
 use Rattle.session_lines.specs.Session.{session_of}
-use Rattle.legal_history.specs.Legal.{Legal}
-use Rattle.text_law.specs.TextLaw.{text_of}
-use Rattle.turn_law.specs.TurnLaw.{IsTurn}
-use Rattle.turn_law.proofs.PlayedTurns.{legal_are_turns}
-use Rattle.report_compare.specs.LegalReports.{IsReportOf}
-use Rattle.report_compare.specs.declared.mistakes.Mistake.{Mistake}
+use Rattle.report_replay.specs.legal_history.Legal.{Legal}
+use Rattle.report_replay.specs.text_law.TextLaw.{text_of}
+use Rattle.report_replay.specs.turn_law.TurnLaw.{IsTurn}
+use Rattle.report_replay.proofs.turn_law.PlayedTurns.{legal_are_turns}
+use Rattle.report_replay.specs.report_compare.LegalReports.{IsReportOf}
+use Rattle.report_replay.specs.report_compare.declared.mistakes.Mistake.{Mistake}
 use Rattle.report_replay.proofs.PlayLemmas.{if_ok}
 use Rattle.judged_session.specs.JudgedTurns.{IsWrongAt, IsWrongFor}
 use Rattle.judged_session.proofs.WrongLines.{wrong_for}

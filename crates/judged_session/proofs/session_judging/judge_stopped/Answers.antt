@@ -1,11 +1,11 @@
 use Rattle.std.proofs.Common.{◌≡◌, ◌-◌, ◌<◌, ℕ, List, length, subst, refl}
 use Rattle.session_lines.specs.Lines.{lines_of}
 use Rattle.snapshot_store.specs.Tickets.{values_of}
-use Rattle.front_law.specs.FrontLaw.{IsFrontOf}
-use Rattle.report_compare.specs.FirstLines.{first_lines}
-use Rattle.report_compare.specs.LegalReports.{BeginsReport}
-use Rattle.report_compare.specs.declared.mistakes.Mistake.{Mistake}
-use Rattle.report_writer.specs.JournalReport.{entries_report}
+use Rattle.report_replay.specs.front_law.FrontLaw.{IsFrontOf}
+use Rattle.report_replay.specs.report_compare.FirstLines.{first_lines}
+use Rattle.report_replay.specs.report_compare.LegalReports.{BeginsReport}
+use Rattle.report_replay.specs.report_compare.declared.mistakes.Mistake.{Mistake}
+use Rattle.report_replay.specs.report_writer.JournalReport.{entries_report}
 use Rattle.report_replay.specs.ReplayedTurns.{IsBeyond}
 use Rattle.report_replay.proofs.PlayLemmas.{if_ok}
 use Rattle.judged_session.specs.JudgedTurns.{IsApart}

@@ -1,5 +1,5 @@
 use Rattle.std.proofs.Common.{rules, ◌∙◌, Err, ap, length}
-use Rattle.xds_book.specs.BookKept.{HasActors}
+use Rattle.report_replay.specs.xds_book.BookKept.{HasActors}
 use Rattle.closed_book.specs.declared.stops.Stop.{Stop}
 use Rattle.judged_session.proofs.JudgeLemmas.{found_by}
 use Rattle.judged_session.proofs.PlayedOutLemmas.{first_is_driver, is_ready, mistake_of, some_lanes}

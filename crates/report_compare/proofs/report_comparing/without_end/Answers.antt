@@ -2,7 +2,7 @@ use Rattle.std.proofs.Common.{◌≡◌, ◌∙◌, length, refl, sym}
 use Rattle.std.proofs.lemmas.List.{length-map}
 use Rattle.report_text.specs.ReportLines.{end_line}
 use Rattle.snapshot_store.specs.Tickets.{values_of}
-use Rattle.report_writer.specs.JournalReport.{entries_report}
+use Rattle.front_law.specs.report_writer.JournalReport.{entries_report}
 use Rattle.report_compare.proofs.EndLemmas.{ends_so, last_fits, without_last}
 use Rattle.report_compare.proofs.report_comparing.without_end.Goals as goal
 

@@ -1,6 +1,6 @@
 use Rattle.std.proofs.Common.{◌≡◌, Ok, Option, None, inl, inr, refl, sym, ap, ◌∙◌}
 use Rattle.std.proofs.lemmas.Option.{none-some}
-use Rattle.report_compare.specs.declared.mistakes.Mistake.{Mistake}
+use Rattle.judged_session.specs.report_compare.declared.mistakes.Mistake.{Mistake}
 use Rattle.report_judge.proofs.Refusals.{err-ok, fault_told, lines_above, no_fault, no_mistake_in, no_mistake_of, none_goes_on, told_fault}
 use Rattle.report_judge.proofs.judging.judge.Goals as goal
 

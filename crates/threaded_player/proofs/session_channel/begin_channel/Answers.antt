@@ -1,4 +1,4 @@
-use Rattle.session_player.proofs.ScriptLemmas.{actors_of}
+use Rattle.closed_book.proofs.session_player.ScriptLemmas.{actors_of}
 use Rattle.threaded_player.proofs.NextEvents.{plan_fits}
 use Rattle.threaded_player.proofs.session_channel.begin_channel.Goals as goal
 

@@ -1,6 +1,6 @@
 use Rattle.std.proofs.Common.{rules, ◌≡◌, ◌<◌, Some}
-use Rattle.xds_history.specs.Setting.{setting_of}
-use Rattle.channel_calls.specs.ChannelPlans.{HasUp}
+use Rattle.turn_steps.specs.xds_history.Setting.{setting_of}
+use Rattle.turn_steps.specs.channel_calls.ChannelPlans.{HasUp}
 use Rattle.turn_player.specs.TurnPlans.{SeatView, UpView}
 use Rattle.turn_player.proofs.TurnLemmas.{hold_turn}
 use Rattle.turn_player.proofs.seat_steps.hold_at.Goals as goal

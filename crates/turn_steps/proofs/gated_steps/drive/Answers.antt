@@ -2,7 +2,7 @@ use Rattle.std.proofs.Common.{length, sym, subst}
 use Rattle.call_journal.specs.declared.event.DriverEvent.{DriverEvent}
 use Rattle.book_progress.specs.ProgressKept.{most_entries}
 use Rattle.channel_calls.proofs.GatedSteps.{drivable}
-use Rattle.xds_book.specs.BookEntries.{IsKnownTo}
+use Rattle.channel_calls.specs.xds_book.BookEntries.{IsKnownTo}
 use Rattle.turn_steps.proofs.gated_steps.drive.Goals as goal
 
 pub apply-requires-clause-known : goal.apply-requires-clause-known

@@ -3,8 +3,8 @@ use Rattle.call_journal.specs.declared.event.CallerEvent.{CallerEvent}
 use Rattle.call_journal.specs.declared.plan.ListedEvent.{ListedEvent}
 use Rattle.book_progress.specs.EndedLines.{IsOpen}
 use Rattle.book_progress.specs.PlayedPlans as played
-use Rattle.xds_history.specs.Setting.{setting_of}
-use Rattle.xds_book.specs.BookEntries.{IsLaneOf}
+use Rattle.channel_calls.specs.xds_history.Setting.{setting_of}
+use Rattle.channel_calls.specs.xds_book.BookEntries.{IsLaneOf}
 use Rattle.channel_calls.proofs.GatedSteps.{next_step}
 use Rattle.channel_calls.proofs.LaneSteps.{pinned_lane}
 use Rattle.turn_steps.proofs.TurnSteps.{call_is_new}

@@ -1,5 +1,5 @@
 use Rattle.std.proofs.Common.{sym, ◌∙◌}
-use Rattle.xds_history.specs.Pages.{pages}
+use Rattle.book_calls.specs.xds_history.Pages.{pages}
 use Rattle.xds_book.proofs.driver_steps.new_references.Goals as goal
 
 pub returns-then-not-may_differ : goal.returns-then-not-may_differ

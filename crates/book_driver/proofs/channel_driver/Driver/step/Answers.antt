@@ -2,8 +2,8 @@ use Rattle.std.proofs.Common.{◌∙◌, sym, ap, subst}
 use Rattle.std.specs.Option.{option_or}
 use Rattle.std.specs.Prelude.{IfSome}
 use Rattle.dep_manager.specs.ShownEntries.{StandAsShown}
-use Rattle.xds_history.specs.Page.{config_now}
-use Rattle.xds_history.specs.Pages.{pages}
+use Rattle.book_trees.specs.xds_history.Page.{config_now}
+use Rattle.book_trees.specs.xds_history.Pages.{pages}
 use Rattle.book_trees.specs.TreesKept.{clusters_of}
 use Rattle.book_trees.proofs.FollowLemmas.{entries_kept}
 use Rattle.book_driver.specs.WatcherKept.{setting_by}

@@ -1,5 +1,5 @@
 use Rattle.std.proofs.Common.{Some, sym, subst}
-use Rattle.xds_history.specs.Pages.{pages}
+use Rattle.book_trees.specs.xds_history.Pages.{pages}
 use Rattle.book_trees.specs.TreesKept.{IsPageOf}
 use Rattle.std.specs.Prelude.{IfSome}
 use Rattle.dep_manager.specs.ShownEntries.{StandAsShown}

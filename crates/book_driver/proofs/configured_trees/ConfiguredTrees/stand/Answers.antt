@@ -1,8 +1,8 @@
 use Rattle.std.proofs.Common.{◌≡◌, false, ◌∙◌, sym, ap, subst}
 use Rattle.std.specs.Prelude.{Some}
 use Rattle.cluster_tree.specs.ViewChanges.{IsChangeMark}
-use Rattle.xds_history.specs.Pages.{pages}
-use Rattle.xds_history.specs.Page.{config_now}
+use Rattle.book_trees.specs.xds_history.Pages.{pages}
+use Rattle.book_trees.specs.xds_history.Page.{config_now}
 use Rattle.book_trees.specs.ReportedLaws.{stands_now}
 use Rattle.book_trees.specs.TreesKept.{cluster_names}
 use Rattle.book_trees.proofs.FollowLemmas.{lawful_now}

@@ -1,5 +1,5 @@
 use Rattle.std.proofs.Common.{◌∙◌, ap, not, subst}
-use Rattle.xds_history.specs.Pages.{pages}
+use Rattle.book_trees.specs.xds_history.Pages.{pages}
 use Rattle.book_trees.specs.TreesKept.{IsPageOf}
 use Rattle.book_driver.proofs.PublishedLemmas.{seen_where, some_of}
 use Rattle.book_driver.proofs.configured_trees.ConfiguredTrees.stay.Goals as goal

@@ -1,8 +1,8 @@
 use Rattle.std.proofs.Common.{true, ◌∙◌, sym, ap}
 use Rattle.std.specs.Prelude.{Some}
 use Rattle.xds_config.specs.declared.config.Config.{Config}
-use Rattle.xds_history.specs.Pages.{pages}
-use Rattle.xds_history.specs.Page.{config_now}
+use Rattle.book_trees.specs.xds_history.Pages.{pages}
+use Rattle.book_trees.specs.xds_history.Page.{config_now}
 use Rattle.book_trees.specs.TreesKept.{cluster_names}
 use Rattle.book_trees.proofs.MarkedLemmas.{marks_tell_change}
 use Rattle.book_driver.proofs.PublishedLemmas.{new_mark}

@@ -1,8 +1,8 @@
 use Rattle.std.proofs.Common.{refl, sym, ◌∙◌, subst}
 use Rattle.config_assembly.specs.Watching.{IsWatching}
-use Rattle.xds_history.specs.Pages.{came, pages}
-use Rattle.book_fates.specs.Timing.{AreAskedBy, NoneWanted, StoppedBy, unreached_among}
-use Rattle.book_fates.specs.FatesKept.{turned_by}
+use Rattle.book_trees.specs.xds_history.Pages.{came, pages}
+use Rattle.driver_step.specs.book_fates.Timing.{AreAskedBy, NoneWanted, StoppedBy, unreached_among}
+use Rattle.driver_step.specs.book_fates.FatesKept.{turned_by}
 use Rattle.driver_step.specs.DriverSteps.{watched_by}
 use Rattle.book_driver.proofs.WatcherLemmas.{keys_by, left_by, none_there, settles, watched_after}
 use Rattle.book_driver.proofs.watcher.Watcher.ask.Goals as goal

@@ -1,6 +1,6 @@
 use Rattle.std.proofs.Common.{◌∙◌, refl, sym, ap, subst}
 use Rattle.dep_manager.specs.KeptAssemblies.{IsRightBy}
-use Rattle.xds_history.specs.Setting.{setting_of}
+use Rattle.book_trees.specs.xds_history.Setting.{setting_of}
 use Rattle.book_driver.proofs.WatcherLemmas.{first_kept}
 use Rattle.book_driver.proofs.watcher.Watcher.new.Goals as goal
 

@@ -1,5 +1,5 @@
 use Rattle.std.proofs.Common.{refl}
-use Rattle.book_streams.specs.StreamsLaws.{came_with}
+use Rattle.driver_step.specs.book_streams.StreamsLaws.{came_with}
 use Rattle.book_driver.specs.WatcherKept.{assembly_with, setting_by}
 use Rattle.book_driver.proofs.WatcherLemmas.{only_at, only_by}
 use Rattle.book_driver.proofs.watcher.Watcher.renew.Goals as goal

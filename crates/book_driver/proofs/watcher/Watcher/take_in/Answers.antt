@@ -1,7 +1,7 @@
 use Rattle.std.proofs.Common.{refl, sym, subst}
 use Rattle.dep_manager.specs.KeptAssemblies.{AreChanges}
-use Rattle.xds_history.specs.Pages.{pages}
-use Rattle.book_streams.specs.StreamsLaws.{came_with}
+use Rattle.book_trees.specs.xds_history.Pages.{pages}
+use Rattle.driver_step.specs.book_streams.StreamsLaws.{came_with}
 use Rattle.book_driver.proofs.WatcherLemmas.{heard_by}
 use Rattle.book_driver.proofs.RenewalLemmas.{heard_at, told_at}
 use Rattle.book_driver.proofs.watcher.Watcher.take_in.Goals as goal

@@ -1,9 +1,9 @@
 use Rattle.std.proofs.Common.{◌≡◌, ◌<◌, ◌^◌, Some, length, arith, refl, ◌∙◌, ap}
 use Rattle.std.specs.Prelude.{option_copied, option_map}
 use Rattle.call_journal.specs.declared.event.CallerEvent.{CallerEvent}
-use Rattle.xds_history.specs.Pages.{caller_page, pages}
-use Rattle.xds_history.specs.References.{held}
-use Rattle.xds_history.specs.Right.{shown}
+use Rattle.book_trees.specs.xds_history.Pages.{caller_page, pages}
+use Rattle.book_trees.specs.xds_history.References.{held}
+use Rattle.book_trees.specs.xds_history.Right.{shown}
 use Rattle.book_picks.specs.TakenTurns.{IsShownAt}
 use Rattle.book_picks.proofs.TakenLemmas.{at_caller, pages_many, picked}
 use Rattle.book_picks.proofs.kept_turns.Turns.pick.Goals as goal

@@ -1,4 +1,4 @@
-use Rattle.xds_history.specs.Pages.{page_of, pages}
+use Rattle.book_trees.specs.xds_history.Pages.{page_of, pages}
 use Rattle.book_picks.proofs.RenewedLemmas.{page_of_snapshot, renewed}
 use Rattle.book_picks.proofs.kept_turns.Turns.renew.Goals as goal
 

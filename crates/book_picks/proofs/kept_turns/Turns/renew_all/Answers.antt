@@ -1,8 +1,8 @@
 use Rattle.std.proofs.Common.{◌≡◌, length, refl, ap, ◌∙◌}
 use Rattle.std.specs.Map.{lookup}
 use Rattle.std.specs.Ordering.{is_eq}
-use Rattle.config_assembly.specs.Orders.{name_cmp}
-use Rattle.xds_history.specs.Pages.{page_of, pages}
+use Rattle.book_trees.specs.config_assembly.Orders.{name_cmp}
+use Rattle.book_trees.specs.xds_history.Pages.{page_of, pages}
 use Rattle.book_picks.specs.declared.kept_turns.Turns.{Turns}
 use Rattle.book_picks.proofs.RenewedLemmas.{all_marked, page_of_snapshot, remade}
 use Rattle.book_picks.proofs.kept_turns.Turns.renew_all.Goals as goal

@@ -1,5 +1,5 @@
 use Rattle.std.proofs.Common.{refl, subst}
-use Rattle.config_assembly.specs.Orders.{Name}
+use Rattle.xds_history.specs.config_assembly.Orders.{Name}
 use Rattle.book_trees.specs.TreesKept.{IsReport}
 use Rattle.book_trees.proofs.CameLemmas.{reported_with}
 use Rattle.book_trees.proofs.reported_trees.ReportedTrees.came.Goals as goal

@@ -2,7 +2,7 @@ use Rattle.std.proofs.Common.{length, Err, refl, ap}
 use Rattle.call_journal.specs.declared.plan.ListedEvent.{ListedEvent}
 use Rattle.book_progress.specs.PlayedPlans as played
 use Rattle.book_progress.specs.ProgressKept.{most_entries}
-use Rattle.xds_book.specs.declared.book_faults.BookFault.{BookFault}
+use Rattle.lane_checks.specs.xds_book.declared.book_faults.BookFault.{BookFault}
 use Rattle.channel_calls.proofs.LaneSteps.{driven_lane}
 use Rattle.channel_calls.proofs.GatedSteps.{book_is, drivable, memory_left}
 use Rattle.channel_calls.proofs.locked_book.Locked.drive.Goals as goal

@@ -2,8 +2,8 @@ use Rattle.std.proofs.Common.{length, Some, refl, ap}
 use Rattle.call_journal.specs.declared.event.CallerEvent.{CallerEvent}
 use Rattle.call_journal.specs.declared.plan.ListedEvent.{ListedEvent}
 use Rattle.book_progress.specs.PlayedPlans as played
-use Rattle.xds_book.specs.declared.book_faults.BookFault.{BookFault}
-use Rattle.xds_history.specs.Setting.{setting_of}
+use Rattle.lane_checks.specs.xds_book.declared.book_faults.BookFault.{BookFault}
+use Rattle.planned_calls.specs.xds_history.Setting.{setting_of}
 use Rattle.channel_calls.proofs.GatedSteps.{book_is, memory_left, pin_is_up, step_at, still_open}
 use Rattle.channel_calls.proofs.locked_book.Locked.hold.Goals as goal
 

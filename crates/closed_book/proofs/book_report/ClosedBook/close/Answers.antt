@@ -1,6 +1,6 @@
 use Rattle.std.proofs.Common.{rules, ◌≡◌, length}
 use Rattle.std.specs.Prelude.{IsTrue}
-use Rattle.xds_book.specs.BookKept.{HasActors}
+use Rattle.channel_plan.specs.xds_book.BookKept.{HasActors}
 use Rattle.closed_book.proofs.ReadyProofs.{plays}
 use Rattle.closed_book.proofs.book_report.ClosedBook.close.Goals as goal
 

@@ -1,6 +1,6 @@
 use Rattle.std.proofs.Common.{rules, ◌≡◌, ◌+◌, ◌-◌, ◌^◌, List, inr, subst, sym, ◌∙◌}
 use Rattle.call_journal.specs.declared.plan.Listed.{Listed}
-use Rattle.listed_events.proofs.TellLemmas.{tells_through}
+use Rattle.replay_law.proofs.listed_events.TellLemmas.{tells_through}
 use Rattle.report_replay.specs.ReplayedTurns.{IsLegalReplay, IsNextOfAny, IsNextOfReplay}
 use Rattle.replay_steps.specs.declared.next_turns.Next.{Next}
 use Rattle.report_replay.proofs.PlayLemmas.{all_played, mistake_found, told_same, turns_are_few}

@@ -2,7 +2,7 @@ use Rattle.std.proofs.Common.{◌≡◌, List}
 use Rattle.call_journal.specs.declared.entry.Entry.{Entry}
 use Rattle.session_lines.specs.declared.session.Session.{Session}
 use Rattle.alike_law.specs.AlikeTexts.{ListsAlike, Parting}
-use Rattle.listed_events.specs.ListedEvents.{TellsOn}
+use Rattle.replay_law.specs.listed_events.ListedEvents.{TellsOn}
 use Rattle.report_replay.specs.ReplayedTurns.{HasReplayed, IsLegalReplay, IsUnderWay}
 use Rattle.report_replay.proofs.replaying.Replay.play_all.Given as goal
 

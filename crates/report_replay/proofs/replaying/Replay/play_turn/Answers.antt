@@ -3,8 +3,8 @@ use Rattle.call_journal.specs.declared.entry.Entry.{Entry}
 use Rattle.session_lines.specs.declared.session.Session.{Session}
 use Rattle.alike_law.specs.AlikeTexts.{Parting}
 use Rattle.completion_law.specs.CompletionLaw.{HasNoSweep}
-use Rattle.listed_events.specs.ListedEvents.{TellsOn}
-use Rattle.xds_book.specs.BookKept.{HasActors}
+use Rattle.replay_law.specs.listed_events.ListedEvents.{TellsOn}
+use Rattle.turn_player.specs.xds_book.BookKept.{HasActors}
 use Rattle.replay_steps.specs.NextTurns.{next_made}
 use Rattle.report_replay.specs.ReplayedTurns.{IsLegalReplay, IsNextOfAny, IsNextOfReplay, IsTurnIn, IsUnderWay, ReplayView}
 use Rattle.replay_steps.specs.declared.next_turns.Next.{Next}

@@ -1,7 +1,7 @@
 use Rattle.std.proofs.Common.{◌≡◌, refl, sym}
 use Rattle.call_journal.specs.declared.event.CallerEvent.{CallerEvent}
 use Rattle.session_lines.specs.declared.session.Act.TheVariants as does
-use Rattle.xds_history.specs.Setting.{setting_of}
+use Rattle.legal_plan.specs.xds_history.Setting.{setting_of}
 use Rattle.xds_book.specs.BookEntries.{answered_call}
 use Rattle.session_player.proofs.ScriptLemmas.{act_ends, act_next, caller_known, calling_at, on_ok}
 use Rattle.session_player.proofs.script.Script.play_act.Goals as goal

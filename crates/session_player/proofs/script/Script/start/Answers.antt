@@ -1,7 +1,7 @@
 use Rattle.std.proofs.Common.{◌≡◌, refl, sym}
 use Rattle.call_journal.specs.declared.event.CallerEvent.{CallerEvent}
 use Rattle.session_lines.specs.declared.session.Act.TheVariants as does
-use Rattle.xds_history.specs.Setting.{setting_of}
+use Rattle.legal_plan.specs.xds_history.Setting.{setting_of}
 use Rattle.session_player.proofs.ScriptLemmas.{act_next, caller_known, calling_at, hold_is_next, hold_known, hold_room, on_ok, start_ends, start_free, start_holds, start_idle, start_up}
 use Rattle.session_player.proofs.script.Script.start.Goals as goal
 

@@ -1,8 +1,8 @@
 use Rattle.std.proofs.Common.{◌≡◌, ◌∙◌, ap}
 use Rattle.snapshot_store.specs.Tickets.{values_of}
-use Rattle.xds_history.specs.Pages.{pages}
-use Rattle.xds_history.specs.References.{snapshots_of}
-use Rattle.xds_history.specs.Setting.{setting_of}
+use Rattle.legal_plan.specs.xds_history.Pages.{pages}
+use Rattle.legal_plan.specs.xds_history.References.{snapshots_of}
+use Rattle.legal_plan.specs.xds_history.Setting.{setting_of}
 use Rattle.xds_book.specs.BookViews.{BookView}
 use Rattle.session_player.proofs.StageLemmas.{all_lanes, snapshots_seen}
 use Rattle.session_player.proofs.stage.Stage.finish.Goals as goal

@@ -1,6 +1,6 @@
 use Rattle.std.proofs.Common.{◌≡◌, sym, subst, ap, OnOk}
 use Rattle.call_journal.specs.declared.event.CallerEvent.{CallerEvent}
-use Rattle.xds_history.specs.Setting.{setting_of}
+use Rattle.legal_plan.specs.xds_history.Setting.{setting_of}
 use Rattle.xds_book.specs.BookEntries.{answered_call}
 use Rattle.session_player.proofs.StageLemmas.{adds_seen, lanes_after, own_lane}
 use Rattle.session_player.proofs.stage.Stage.pick.Goals.{in-Ok, in-Err}

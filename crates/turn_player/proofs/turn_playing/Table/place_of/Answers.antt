@@ -1,6 +1,6 @@
 use Rattle.std.proofs.Common.{rules, ◌≡◌, ◌≤◌, List, length, subst, Some}
 use Rattle.std.specs.Prelude.{slice_get}
-use Rattle.xds_book.specs.BookKept.{HasActors}
+use Rattle.session_player.specs.xds_book.BookKept.{HasActors}
 use Rattle.turn_player.specs.TurnPlans.{SeatView}
 use Rattle.turn_player.proofs.PlaceLemmas.{no_seat, sweep_at, sweep_no_seat, turn_place}
 use Rattle.turn_player.proofs.turn_playing.Table.place_of.Goals as goal

@@ -1,7 +1,7 @@
 use Rattle.std.proofs.Common.{◌≡◌, ◌+◌, ap}
 use Rattle.xc_base.specs.declared.names.Key.{Key}
 use Rattle.xc_base.specs.declared.names.Kind.{Kind}
-use Rattle.xds_history.specs.Setting.{setting_of}
+use Rattle.book_calls.specs.xds_history.Setting.{setting_of}
 use Rattle.xds_book.proofs.BeginLemmas.{first_seen, kept_first}
 use Rattle.xds_book.proofs.channel_book.Book.begin.Goals as goal
 

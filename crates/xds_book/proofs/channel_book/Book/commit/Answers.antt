@@ -1,7 +1,7 @@
 use Rattle.std.proofs.Common.{refl, ◌∙◌}
 use Rattle.call_journal.specs.declared.event.CallerEvent.{CallerEvent}
-use Rattle.xds_history.specs.Setting.{setting_of}
-use Rattle.xds_history.specs.Pages.{pages}
+use Rattle.book_calls.specs.xds_history.Setting.{setting_of}
+use Rattle.book_calls.specs.xds_history.Pages.{pages}
 use Rattle.xds_book.proofs.CallStepLemmas.{call_next, left_ready, kept_after_call, makes_call, opened}
 use Rattle.xds_book.proofs.channel_book.Book.commit.Goals as goal
 

@@ -1,8 +1,8 @@
 use Rattle.std.proofs.Common.{◌≡◌, ◌<◌, Option, false, refl, sym, ap, ◌∙◌, subst, take}
 use Rattle.std.specs.Prelude.{IfSome}
-use Rattle.xds_history.specs.Setting.{setting_of}
-use Rattle.xds_history.specs.Pages.{pages}
-use Rattle.book_streams.specs.StreamsLaws.{authority_in}
+use Rattle.book_calls.specs.xds_history.Setting.{setting_of}
+use Rattle.book_calls.specs.xds_history.Pages.{pages}
+use Rattle.book_driver.specs.book_streams.StreamsLaws.{authority_in}
 use Rattle.book_driver.proofs.StillLemmas.{streams_are_all}
 use Rattle.book_driver.specs.ShownTrees.{number_in}
 use Rattle.book_driver.specs.declared.configured_trees.Published.{Published}

@@ -1,4 +1,4 @@
-use Rattle.xds_history.specs.Setting.{setting_of}
+use Rattle.book_calls.specs.xds_history.Setting.{setting_of}
 use Rattle.call_clusters.proofs.CourseProofs.{clusters_kept, holds_have_pins}
 use Rattle.xds_book.proofs.FinishLemmas.{lanes_come, tickets_few}
 use Rattle.xds_book.proofs.KeptReferences.{keeps_held, keeps_no_others, keeps_pinned, latest_has_them}

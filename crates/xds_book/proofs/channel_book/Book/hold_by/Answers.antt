@@ -1,8 +1,8 @@
 use Rattle.std.proofs.Common.{◌≡◌, ◌∙◌, ap}
 use Rattle.call_journal.specs.declared.event.CallerEvent.{CallerEvent}
-use Rattle.xds_history.specs.Setting.{setting_of}
-use Rattle.xds_history.specs.Pages.{pages}
-use Rattle.xds_history.specs.Right.{caller_reply}
+use Rattle.book_calls.specs.xds_history.Setting.{setting_of}
+use Rattle.book_calls.specs.xds_history.Pages.{pages}
+use Rattle.book_calls.specs.xds_history.Right.{caller_reply}
 use Rattle.book_calls.specs.CallsKept.{IsRouted}
 use Rattle.xds_book.specs.BookViews.{PinnedView}
 use Rattle.xds_book.proofs.CallStepLemmas.{call_next, left_ready, kept_after_call, opened}

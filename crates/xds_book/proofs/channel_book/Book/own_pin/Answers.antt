@@ -1,6 +1,6 @@
 use Rattle.std.specs.Prelude.{option_copied}
-use Rattle.xds_history.specs.Setting.{setting_of}
-use Rattle.xds_history.specs.Pages.{pages}
+use Rattle.book_calls.specs.xds_history.Setting.{setting_of}
+use Rattle.book_calls.specs.xds_history.Pages.{pages}
 use Rattle.std.proofs.Common.{refl}
 use Rattle.xds_book.proofs.CallStepLemmas.{own_pin_is}
 use Rattle.xds_book.proofs.channel_book.Book.own_pin.Goals as goal

@@ -2,8 +2,8 @@ use Rattle.std.proofs.Common.{refl}
 use Rattle.std.specs.Prelude.{option_copied}
 use Rattle.call_journal.specs.declared.event.CallerEvent.{CallerEvent}
 use Rattle.call_journal.specs.declared.entry.What.{What}
-use Rattle.xds_history.specs.Setting.{setting_of}
-use Rattle.xds_history.specs.Pages.{pages}
+use Rattle.book_calls.specs.xds_history.Setting.{setting_of}
+use Rattle.book_calls.specs.xds_history.Pages.{pages}
 use Rattle.xds_book.specs.BookEntries.{entry_of}
 use Rattle.xds_book.proofs.CallStepLemmas.{call_next, kept_after_call, makes_call, opened, picked_ready}
 use Rattle.xds_book.proofs.KeptPicks.{few_less, pick_at}

@@ -3,12 +3,12 @@ use Rattle.std.specs.Prelude.{IfSome}
 use Rattle.boxcar.specs.Table.{Where}
 use Rattle.cluster_tree.specs.declared.snapshot.Snapshot.{Snapshot}
 use Rattle.call_journal.specs.declared.entry.Entry.{Entry}
-use Rattle.xds_history.specs.Page.{latest}
+use Rattle.book_calls.specs.xds_history.Page.{latest}
 use Rattle.book_calls.specs.CallsKept.{IsTicketAt}
 use Rattle.call_journal.specs.declared.event.CallerEvent.{CallerEvent}
-use Rattle.xds_history.specs.Setting.{setting_of}
-use Rattle.xds_history.specs.Pages.{pages}
-use Rattle.xds_history.specs.Right.{caller_reply}
+use Rattle.book_calls.specs.xds_history.Setting.{setting_of}
+use Rattle.book_calls.specs.xds_history.Pages.{pages}
+use Rattle.book_calls.specs.xds_history.Right.{caller_reply}
 use Rattle.xds_book.proofs.CallStepLemmas.{call_next, fault_ready, left_ready, kept_after_call, kept_after_fault, makes_call, new_lawful, new_stored, opened, token_is, view_of}
 use Rattle.xds_book.proofs.channel_book.Book.pin.Goals as goal
 
