@@ -1,6 +1,10 @@
 #!/usr/bin/env python3
 """tools/crates.py NAME: the crates that a crate stands on, lowest first, and it last, each on a line.
 
+With `--ways` in place of a name: how many ways lead down from all crates together, and from each of the ten that have most.
+A way is a crate, or a crate and a way of one that its line in crates.txt lists. A kit that goes through each way anew takes
+a millisecond or two for each, more than once, before it proves anything.
+
 As a module it reads crates.txt: `read_crates` gives its crates in order, with the group that a comment
 `# == LAYER: SENTENCE` above them names.
 """
@@ -12,6 +16,7 @@ import sys
 
 HOME = pathlib.Path(__file__).resolve().parent.parent
 GROUP = re.compile(r"# == ([^:]+): (.+)")
+MOST_SHOWN = 10
 
 
 @dataclasses.dataclass
@@ -65,10 +70,31 @@ def below(crates, name):
     return list(order)
 
 
+def count_ways(crates):
+    """How many ways lead down from each crate."""
+    ways = {}
+    for top in crates:
+        for name in below(crates, top):
+            if name not in ways:
+                ways[name] = 1 + sum(ways[it] for it in crates[name].uses if it in crates)
+    return ways
+
+
+def show_ways(crates):
+    """Writes how many ways lead down from all crates, and from those that have most."""
+    ways = count_ways(crates)
+    print(f"{sum(ways.values())} all")
+    for name in sorted(ways, key=ways.get, reverse=True)[:MOST_SHOWN]:
+        print(f"{ways[name]} {name}")
+
+
 def main():
     crates = crates_of_repository()
+    if sys.argv[1:] == ["--ways"]:
+        show_ways(crates)
+        return
     if len(sys.argv) != 2 or sys.argv[1] not in crates:
-        sys.exit("usage: python3 tools/crates.py NAME, where NAME is a crate of crates.txt")
+        sys.exit("usage: python3 tools/crates.py NAME|--ways, where NAME is a crate of crates.txt")
     print("\n".join(below(crates, sys.argv[1])))
 
 
