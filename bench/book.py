@@ -1,12 +1,13 @@
-"""bench/book.py [--runs N] [--only STEP..] [--most RATIO]: what single steps of a channel cost.
+"""bench/book.py [--runs N] [--only STEP..] [--system] [--most RATIO]: what single steps of a channel cost.
 
 A step costs what a session with twice as many of its lines takes longer, over the lines that it has more: so neither the
 start of the program nor the first responses are counted. What is read is counted; the report isn't, since the output takes
 no byte, and the whole session is played before its report is begun. Told are the user time of a step and by how much it raises
 the peak memory, of the least of N runs each. Below stand how much longer an Endpoint response of all clusters takes with 64
 times the clusters, and the memory that a snapshot takes for each cluster that stayed. XDS_YARDSTICK names another program with
-the same commands: then both play by turns, and the ratio of their times is told too. With --most the status is 1 where one of
-these ratios is above it.
+the same commands: then both play by turns, and the ratio of their times is told too. With --system the time that the system
+works for a program is counted, too: the two together are told exactly, where user time alone may be told by ticks. With --most
+the status is 1 where one of these ratios is above it.
 """
 
 import argparse
@@ -36,8 +37,9 @@ STEPS = {
 class Step:
     """A step: its two sessions, and what each program needs for them."""
 
-    def __init__(self, name, programs, room):
+    def __init__(self, name, programs, room, with_system):
         self.what, session, self.count = STEPS[name]
+        self.with_system = with_system
         self.inputs = [room / "once", room / "twice"]
         self.best = {program: [(float("inf"), float("inf"))] * 2 for program in programs}
         for times, file in enumerate(self.inputs, 1):
@@ -46,8 +48,12 @@ class Step:
     def measure(self):
         """Runs each program on both sessions, and keeps the least time and memory."""
         for program, best in self.best.items():
-            self.best[program] = [tuple(map(min, least, timing.alone(program, ["run"], file, is_written=False)))
+            self.best[program] = [tuple(map(min, least, self.run(program, file)))
                                   for least, file in zip(best, self.inputs)]
+
+    def run(self, program, file):
+        """The time and the memory of one run on a session."""
+        return timing.alone(program, ["run"], file, is_written=False, with_system=self.with_system)
 
     def cost(self, program):
         """The time in seconds and the memory in bytes of one step."""
@@ -55,11 +61,11 @@ class Step:
         return [(large - small) / self.count for small, large in zip(once, twice)]
 
 
-def measured(name, programs, runs):
+def measured(name, programs, given):
     """What a step costs each program."""
     with tempfile.TemporaryDirectory() as room:
-        step = Step(name, programs, pathlib.Path(room))
-        for _ in range(runs):
+        step = Step(name, programs, pathlib.Path(room), given.system)
+        for _ in range(given.runs):
             step.measure()
     return [step.cost(program) for program in programs]
 
@@ -97,6 +103,7 @@ def words():
     parser = argparse.ArgumentParser(description="What single steps of a channel cost.")
     parser.add_argument("--runs", type=int, default=5, help="how often each session is played")
     parser.add_argument("--only", nargs="+", choices=STEPS, default=list(STEPS), help="the steps")
+    parser.add_argument("--system", action="store_true", help="the time that the system works for a program counts, too")
     timing.add_most(parser)
     return parser.parse_args()
 
@@ -105,7 +112,7 @@ def main():
     given, programs, costs = words(), timing.programs(), {}
     print(head(len(programs)))
     for name in given.only:
-        costs[name] = measured(name, programs, given.runs)
+        costs[name] = measured(name, programs, given)
         print(row(name, costs[name]), flush=True)
     for place, which in enumerate(["xds_replay", "the other program"][:len(programs)]):
         for sentence in growth(costs, place):
