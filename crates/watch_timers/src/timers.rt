@@ -1,8 +1,8 @@
 //! The timers of keys.
-ghost use Rattle.std.specs.Prelude.{◌≡◌, ◌↔◌, [], map, filter, not, IsTrue, OnOk, OnErr, IfOk};
+ghost use Rattle.std.specs.Prelude.{◌≡◌, ◌↔◌, [], map, filter, not, is_some, IsTrue, OnOk, OnErr, IfOk};
 ghost use Rattle.std.specs.BTreeMap.{IsOrdered};
 ghost use Rattle.std.specs.BTreeSet.{IsFromIterResult};
-ghost use Rattle.watch_timers.specs.Timers.{has_run, due_of, Starts, Stops, TakesDue};
+ghost use Rattle.watch_timers.specs.Timers.{has_run, due_of, started_at, Starts, Stops, TakesDue};
 
 use std::alloc::Global;
 use std::collections::{BTreeMap, BTreeSet};
@@ -119,6 +119,13 @@ impl Timers {
         ensures { IsTrue result ↔ (self.now ≡ []) }
     {
         self.starts.is_empty()
+    }
+
+    /// Whether the key's timer runs. It takes no memory.
+    pub fn is_running(&self, key: &Key) -> bool
+        ensures { result ≡ is_some (started_at self.now key.now) }
+    {
+        self.starts.contains_key(key)
     }
 
     /// Starts the key's timer at this moment. One that runs keeps the time of its first start. Without memory nothing
