@@ -29,6 +29,7 @@ STEPS = {
     "pick": ("1,024 clusters: a pick", large.picks_of_a_call, 90_000),
     "call": ("two routes: a start and its commit", large.calls, 30_000),
     "response": ("1,024 clusters: an Endpoint response of 120 of them", large.endpoint_responses, 100),
+    "first_response": ("1,024 clusters: the first endpoints of one of them", large.first_endpoints, 500),
     "response_to_all": ("1,024 clusters: one of all of them", functools.partial(large.endpoint_responses, changes=MANY), 20),
     "response_to_few": ("16 clusters: one of all of them", functools.partial(large.endpoint_responses, changes=FEW, many=FEW), 1_280),
 }

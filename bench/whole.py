@@ -33,6 +33,7 @@ KINDS = {
     "picks": ("calls with a pick each", "calls", 65_536),
     "endpoint_lines": ("1,024 clusters: reports on endpoints", "lines", 19_996),
     "endpoint_responses": ("1,024 clusters: Endpoint responses of 120 of them", "responses", 200),
+    "first_endpoints": ("1,024 clusters whose endpoints come one by one, and are awaited", "responses", 1_000),
     "calls_by_routes": ("1,024 routes: calls that only the last one fits", "calls", 10_000),
 }
 

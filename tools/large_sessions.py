@@ -33,15 +33,24 @@ def assigned(name, place, weight=1):
     return wire.assignment(name, [wire.locality("z", [host(place)], weight)])
 
 
-def whole(rules):
-    """The first lines, up to a whole configuration of these rules, and the clusters in the order of their endpoints."""
-    clusters = list(dict.fromkeys(cluster for _, _, cluster in rules))
+def clusters_of(rules):
+    """The clusters that these rules lead to, each once."""
+    return list(dict.fromkeys(cluster for _, _, cluster in rules))
+
+
+def awaited(rules):
+    """The first lines, up to where the endpoints of the clusters of these rules are awaited."""
     return HEAD + [
         "d open -",
         data(1, wire.LISTENER, [wire.listener_of("svc", "r", rules)]),
-        data(1, wire.CLUSTER, [wire.eds_cluster(name) for name in clusters]),
-        data(1, wire.ENDPOINT, [assigned(name, place) for place, name in enumerate(clusters)]),
+        data(1, wire.CLUSTER, [wire.eds_cluster(name) for name in clusters_of(rules)]),
     ]
+
+
+def whole(rules):
+    """The first lines, up to a whole configuration of these rules."""
+    endpoints_of_all = [assigned(name, place) for place, name in enumerate(clusters_of(rules))]
+    return awaited(rules) + [data(1, wire.ENDPOINT, endpoints_of_all)]
 
 
 def many_clusters(many=MANY):
@@ -102,6 +111,12 @@ def endpoint_responses(count, changes=120, many=MANY):
     """So many Endpoint responses, in each of which 120 of 1,024 clusters change, or so many of so many."""
     yield from whole(many_clusters(many)) + ready(many)
     yield from (changed(turn, changes, many) for turn in range(count))
+
+
+def first_endpoints(count):
+    """The endpoints of 1,024 clusters, for which all wait, come in responses of their own, so many of them."""
+    yield from awaited(many_clusters())
+    yield from (data(place + 1, wire.ENDPOINT, [assigned(f"c{place}", place)]) for place in range(count))
 
 
 def picks_of_a_call(count):
@@ -168,8 +183,8 @@ def endpoints(count):
 
 
 KINDS = {one.__name__: one for one in (
-    calls, picks, picks_of_a_call, calls_by_routes, endpoint_lines, endpoint_responses, updates, mixed, commits, sweeps, pieces, resources,
-    endpoints)}
+    calls, picks, picks_of_a_call, calls_by_routes, endpoint_lines, endpoint_responses, first_endpoints, updates, mixed, commits,
+    sweeps, pieces, resources, endpoints)}
 
 
 def text(lines):
