@@ -58,8 +58,8 @@ module _ (r : Resources) (reached : List Key) (kept : Kept) (is : IsAssembledOf 
   lawful_if None lawful = lawful
   lawful_if (Some key) lawful = tt
 
-  pub outcome_by : (marks : Vec Bool Global) → IsLawfulConfig kept.config → IsOutcomeBy r kept.references (outcome_of reached kept marks)
-  outcome_by marks lawful = record {
+  pub outcome_by : (stays : Bool) (marks : Vec Bool Global) → IsLawfulConfig kept.config → IsOutcomeBy r kept.references (outcome_of reached stays kept marks)
+  outcome_by stays marks lawful = record {
     reached_are = is.reached_are;
     missing_is = least_is;
     config_is = config_by (least_of kept.awaited.keys reached) least_reached;

@@ -44,9 +44,9 @@ pub stand_left : (least : Option Key) (marks left : List Bool) (shown : Option C
 stand_left None marks left shown config is stand = subst (λ ms. StandAsShown ms (Some config) config) (sym is) (none_marked marks config stand.count)
 stand_left (Some key) marks left shown config is stand = subst (λ ms. StandAsShown ms shown config) (sym is) stand
 
-pub stand_kept : (reached : List Key) (made kept : Kept) (o : Outcome) (shown : Option Config) → o ≡ outcome_of reached made o.others → kept ≡ kept_with made kept.others → kept.others.items ≡ marks_left o.missing made.others.items →
+pub stand_kept : (reached : List Key) (stays : Bool) (made kept : Kept) (o : Outcome) (shown : Option Config) → o ≡ outcome_of reached stays made o.others → kept ≡ kept_with made kept.others → kept.others.items ≡ marks_left o.missing made.others.items →
     StandAsShown made.others.items shown made.config → StandAsShown kept.others.items (option_or o.config shown) kept.config
-stand_kept reached made kept o shown is same left stand =
+stand_kept reached stays made kept o shown is same left stand =
     let config : o.config ≡ config_if o.missing made.config = ap (λ out. out.config) is ∙ ap (λ least. config_if least made.config) (sym (ap (λ out. out.missing) is)) in
     subst (λ c. StandAsShown kept.others.items (option_or o.config shown) c) (sym (ap (λ k. k.config) same))
     (subst (λ handed. StandAsShown kept.others.items (option_or handed shown) made.config) (sym config) (stand_left o.missing made.others.items kept.others.items shown made.config left stand))

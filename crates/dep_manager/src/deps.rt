@@ -1,5 +1,5 @@
 //! The dependency manager of a channel.
-ghost use Rattle.std.specs.Prelude.{◌≡◌, ◌↔◌, ◌≤◌, ◌+◌, List, [], length, true, IfOk, IfSome, IsNone, IsOk, IsSome, IsSomeAnd, None, OnOk, Some, map, unwrap_or};
+ghost use Rattle.std.specs.Prelude.{◌≡◌, ◌↔◌, ◌≤◌, ◌+◌, List, [], length, true, false, IfOk, IfSome, IsNone, IsOk, IsSome, IsSomeAnd, None, OnOk, Some, map, unwrap_or};
 ghost use Rattle.std.specs.Option.{option_or};
 ghost use Rattle.xc_base.specs.declared.names.Kind.TheVariants.{Listener as ListenerKind};
 ghost use Rattle.std.specs.List.Sorted.{IsStrictlySortedBy};
@@ -44,6 +44,8 @@ pub struct Outcome {
     /// For each of its clusters, whether its entry may be another one than the one that stood at its place in the
     /// configuration that was handed out last before this one. It is empty where there is no configuration.
     pub others: Vec<bool>,
+    /// Whether the keys that are reached are known to be those that the update before reached.
+    pub stays: bool,
 }
 
 /// The dependency manager: the target of a channel, the keys that the last update reached, which are those that are
@@ -70,10 +72,15 @@ impl Model for Deps {
     ghost invariant = { λ d. (d.target.key.kind ≡ ListenerKind) × IfSome d.last (λ kept. StandAsShown kept.others.items d.shown kept.config) };
 }
 
-/// What an update comes to that reached these keys and made this. Where a configuration is handed out, the marks are taken out of
-/// what was made, and no cluster is marked any more.
-fn outcome_of(alloc: Global, reached: SharedKeys, kept: &mut Kept) -> Result<Outcome, Memory>
-    ensures outcome { IfOk result (λ o. o ≡ outcome_of reached kept.old o.others) }
+/// What an update comes to that reached these keys, which may be known to be those of the update before, and made this. Where a
+/// configuration is handed out, the marks are taken out of what was made, and no cluster is marked any more.
+fn outcome_of(
+    alloc: Global,
+    reached: SharedKeys,
+    stays: bool,
+    kept: &mut Kept,
+) -> Result<Outcome, Memory>
+    ensures outcome { IfOk result (λ o. o ≡ outcome_of reached stays kept.old o.others) }
     ensures others { IfOk result (λ o. o.others.items ≡ marks_if o.missing kept.old.others.items) }
     ensures kept { kept.new ≡ kept_with kept.old kept.new.others }
     ensures left { IfOk result (λ o. kept.new.others.items ≡ marks_left o.missing kept.old.others.items) }
@@ -86,6 +93,7 @@ fn outcome_of(alloc: Global, reached: SharedKeys, kept: &mut Kept) -> Result<Out
         missing,
         config,
         others,
+        stays,
     })
 }
 
@@ -104,17 +112,24 @@ impl Deps {
         })
     }
 
-    /// Keeps what an update made, and answers what it comes to where it reached these keys.
-    fn keep(&mut self, alloc: Global, reached: SharedKeys, made: Kept) -> Result<Outcome, Memory>
+    /// Keeps what an update made, and answers what it comes to where it reached these keys, which may be known to be those of the
+    /// update before.
+    fn keep(
+        &mut self,
+        alloc: Global,
+        reached: SharedKeys,
+        stays: bool,
+        made: Kept,
+    ) -> Result<Outcome, Memory>
         requires { StandAsShown made.others.items self.old.shown made.config }
-        ensures outcome { IfOk result (λ o. o ≡ outcome_of reached made o.others) }
+        ensures outcome { IfOk result (λ o. o ≡ outcome_of reached stays made o.others) }
         ensures others { IfOk result (λ o. IfSome o.config (λ config. StandAsShown o.others.items self.old.shown config)) }
         ensures shown { IfOk result (λ o. self.new.shown ≡ option_or o.config self.old.shown) }
         ensures held { (self.new.target ≡ self.old.target) × (self.new.reached ≡ self.old.reached) }
         ensures kept { OnOk result (IsSomeAnd self.new.last (λ kept. kept ≡ kept_with made kept.others)) }
     {
         let mut kept = made;
-        let outcome = outcome_of(alloc, reached, &mut kept)?;
+        let outcome = outcome_of(alloc, reached, stays, &mut kept)?;
         if let Some(config) = &outcome.config {
             self.shown = Some(config.share()?);
         }
@@ -150,6 +165,7 @@ impl Deps {
         ensures watched { IfOk result (λ o. (entries : List AuthorityValue) (known : Watched) → IsKeptOf entries known self.old.target self.old.reached last → AreChanges known cache.now changed.now → IsWatching cache.now cache.now o.reached) }
         ensures kept { IfOk result (λ o. (entries : List AuthorityValue) (known : Watched) → IsKeptOf entries known self.old.target self.old.reached last → AreChanges known cache.now changed.now → IsRightBy entries cache.now self.new) }
         ensures held { IfOk result (λ o. (self.new.target ≡ self.old.target) × (self.new.reached ≡ o.reached)) }
+        ensures stays { IfOk result (λ o. (o.stays ≡ true) × (o.reached ≡ self.old.reached)) }
         ensures others { IfOk result (λ o. IfSome o.config (λ config. StandAsShown o.others.items self.old.shown config)) }
         ensures shown { IfOk result (λ o. self.new.shown ≡ option_or o.config self.old.shown) }
         ensures cost { steps.new ≤ steps.old + length changed.now }
@@ -157,7 +173,7 @@ impl Deps {
     {
         let kept = renew(alloc, last, changed.as_slice(), cache, steps)?;
         let reached = self.reached.share()?;
-        let outcome = self.keep(alloc, reached, kept)?;
+        let outcome = self.keep(alloc, reached, true, kept)?;
         Ok(outcome)
     }
 
@@ -175,6 +191,7 @@ impl Deps {
         ensures watched { IfOk result (λ o. IsWatching cache.old cache.new o.reached) }
         ensures kept { IfOk result (λ o. IsRightBy boot.now.authorities cache.new self.new) }
         ensures held { IfOk result (λ o. (self.new.target ≡ self.old.target) × (self.new.reached ≡ o.reached)) }
+        ensures stays { IfOk result (λ o. o.stays ≡ false) }
         ensures others { IfOk result (λ o. IfSome o.config (λ config. StandAsShown o.others.items self.old.shown config)) }
         ensures shown { IfOk result (λ o. self.new.shown ≡ option_or o.config self.old.shown) }
     {
@@ -193,7 +210,7 @@ impl Deps {
         )?;
         let reached = SharedKeys::of(alloc, made.reached)?;
         let shared = reached.share()?;
-        let outcome = self.keep(alloc, shared, made.kept)?;
+        let outcome = self.keep(alloc, shared, false, made.kept)?;
         self.reached = reached;
         Ok(outcome)
     }
@@ -202,8 +219,8 @@ impl Deps {
     /// calls hold or have pinned. From then on the cache watches the reached keys and no others. Each key that it
     /// watched before must have been reached by the last update, or be reached now, and each of which something else is
     /// known than then must be one of those that changed. Where these are keys of Endpoint resources and calls refer to
-    /// the same clusters, each of them is looked at once and nothing else is, and what they don't touch is the same
-    /// shared value as before; else all is made from nothing. With the configuration come marks of the clusters whose
+    /// the same clusters, each of them is looked at once and nothing else is, what they don't touch is the same shared
+    /// value as before, and the outcome says that the reached keys stay; else all is made from nothing. With the configuration come marks of the clusters whose
     /// entries may be other ones than in the configuration that was handed out last: one without a mark has the entry that
     /// stood at its place in that one. After want of memory the cache may watch some of the keys alone.
     pub fn update<L: Ledger>(
@@ -224,11 +241,13 @@ impl Deps {
         ensures lawful { IfOk result (λ o. IfSome o.config IsLawfulConfig) }
         ensures watched { IfOk result (λ o. IsWatching cache.old cache.new o.reached) }
         ensures held { IfOk result (λ o. (self.new.target ≡ self.old.target) × (self.new.reached ≡ o.reached)) }
+        ensures stays { IfOk result (λ o. o.stays ≡ true → o.reached ≡ self.old.reached) }
         ensures others { IfOk result (λ o. IfSome o.config (λ config. StandAsShown o.others.items self.old.shown config)) }
         ensures shown { IfOk result (λ o. self.new.shown ≡ option_or o.config self.old.shown) }
         ensures kept { IfOk result (λ o. IsRightBy boot.now.authorities cache.new self.new) }
         ensures still { (last : KeptValue) → self.old.last ≡ Some last → references.now ≡ last.references → changed.now ≡ [] → steps.new ≡ steps.old }
         ensures cost { (last : KeptValue) → self.old.last ≡ Some last → references.now ≡ last.references → are_endpoints changed.now ≡ true → steps.new ≤ steps.old + length changed.now }
+        ensures follows { (last : KeptValue) → self.old.last ≡ Some last → references.now ≡ last.references → are_endpoints changed.now ≡ true → IfOk result (λ o. o.stays ≡ true) }
     {
         match self.take_last(changed.as_slice(), references) {
             Some(last) => {

@@ -1,4 +1,4 @@
-use Rattle.std.proofs.Common.{◌≡◌, sym, ap, ◌∙◌, subst}
+use Rattle.std.proofs.Common.{◌≡◌, false, sym, ap, ◌∙◌, subst}
 use Rattle.std.specs.Prelude.{IsSomeAnd}
 use Rattle.config_assembly.specs.Reach.{reach}
 use Rattle.config_assembly.specs.ReachedResources.{Resources, resources}
@@ -21,8 +21,8 @@ returns-clause-outcome g c =
     let r : Resources = resources c.args.self.now.target c.args.boot.now.authorities c.args.cache.now in
     let is : IsAssembledOf r c.in_ok-made.made.reached c.in_ok-made.made.kept = subst (λ d. IsAssembledOf (resources d.target c.args.boot.now.authorities c.args.cache.now) c.in_ok-made.made.reached c.in_ok-made.made.kept) c.self.view_is c.in_ok-made.ensures.assembled in
     let keys : c.in_ok-shared.shared ≡ c.in_ok-made.made.reached = c.in_ok-shared.ensures ∙ c.in_ok-reached.ensures in
-    subst (IsOutcomeBy r c.args.references.now) (sym (c.in_ok-outcome.ensures.outcome ∙ ap (λ ks. outcome_of ks c.in_ok-made.made.kept c.in_ok-outcome.outcome.others) keys))
-    (subst (λ names. IsOutcomeBy r names (outcome_of c.in_ok-made.made.reached c.in_ok-made.made.kept c.in_ok-outcome.outcome.others)) (c.in_ok-made.ensures.references ∙ c.as_slice.ensures) (outcome_by r c.in_ok-made.made.reached c.in_ok-made.made.kept is c.in_ok-outcome.outcome.others c.in_ok-made.ensures.lawful))
+    subst (IsOutcomeBy r c.args.references.now) (sym (c.in_ok-outcome.ensures.outcome ∙ ap (λ ks. outcome_of ks false c.in_ok-made.made.kept c.in_ok-outcome.outcome.others) keys))
+    (subst (λ names. IsOutcomeBy r names (outcome_of c.in_ok-made.made.reached false c.in_ok-made.made.kept c.in_ok-outcome.outcome.others)) (c.in_ok-made.ensures.references ∙ c.as_slice.ensures) (outcome_by r c.in_ok-made.made.reached c.in_ok-made.made.kept is false c.in_ok-outcome.outcome.others c.in_ok-made.ensures.lawful))
 
 pub returns-clause-watched : goal.returns-clause-watched
 returns-clause-watched g c =

@@ -1,4 +1,4 @@
-use Rattle.std.proofs.Common.{◌≡◌, sym, ap, ◌∙◌, subst}
+use Rattle.std.proofs.Common.{◌≡◌, true, sym, ap, ◌∙◌, subst}
 use Rattle.xc_base.specs.declared.names.Kind.{Kind}
 use Rattle.config_assembly.specs.ReachedResources.{Resources, resources}
 use Rattle.config_assembly.specs.Watching.{IsWatching}
@@ -21,8 +21,8 @@ returns-clause-outcome g c entries known is changes =
     let now : IsKeptOf entries c.args.cache.now c.args.self.now.target c.args.self.now.reached c.in_ok-kept.kept =
     c.in_ok-kept.ensures.kept entries known c.args.self.now.target c.args.self.now.reached listener is (subst (AreChanges known c.args.cache.now) (sym c.as_slice.ensures) changes) in
     let keys : c.in_ok-reached.reached ≡ c.args.self.now.reached = c.in_ok-reached.ensures ∙ ap (λ d. d.reached) c.self.view_is in
-    subst (IsOutcomeBy r c.args.last.references) (sym (c.in_ok-outcome.ensures.outcome ∙ ap (λ ks. outcome_of ks c.in_ok-kept.kept c.in_ok-outcome.outcome.others) keys))
-    (subst (λ names. IsOutcomeBy r names (outcome_of c.args.self.now.reached c.in_ok-kept.kept c.in_ok-outcome.outcome.others)) c.in_ok-kept.ensures.references (outcome_by r c.args.self.now.reached c.in_ok-kept.kept now.assembled c.in_ok-outcome.outcome.others now.lawful))
+    subst (IsOutcomeBy r c.args.last.references) (sym (c.in_ok-outcome.ensures.outcome ∙ ap (λ ks. outcome_of ks true c.in_ok-kept.kept c.in_ok-outcome.outcome.others) keys))
+    (subst (λ names. IsOutcomeBy r names (outcome_of c.args.self.now.reached true c.in_ok-kept.kept c.in_ok-outcome.outcome.others)) c.in_ok-kept.ensures.references (outcome_by r c.args.self.now.reached c.in_ok-kept.kept now.assembled true c.in_ok-outcome.outcome.others now.lawful))
 
 pub returns-clause-watched : goal.returns-clause-watched
 returns-clause-watched g c entries known is changes =
@@ -44,3 +44,6 @@ pub returns-clause-held : goal.returns-clause-held
 returns-clause-held g c =
     let keys : c.in_ok-reached.reached ≡ c.args.self.now.reached = c.in_ok-reached.ensures ∙ ap (λ d. d.reached) c.self.view_is in
     (c.keep.ensures.held.0, c.keep.ensures.held.1 ∙ sym keys ∙ sym (ap (λ o. o.reached) c.in_ok-outcome.ensures.outcome))
+
+pub returns-clause-stays : goal.returns-clause-stays
+returns-clause-stays g c = (ap (λ o. o.stays) c.in_ok-outcome.ensures.outcome, ap (λ o. o.reached) c.in_ok-outcome.ensures.outcome ∙ c.in_ok-reached.ensures ∙ ap (λ d. d.reached) c.self.view_is)

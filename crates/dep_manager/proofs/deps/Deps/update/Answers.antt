@@ -1,6 +1,7 @@
 use Rattle.std.proofs.Common.{length, sym, ap, ◌∙◌, subst}
 use Rattle.std.specs.Prelude.{IfSome}
 use Rattle.std.specs.Option.{option_or}
+use Rattle.std.proofs.lemmas.Bool.{true≢false}
 use Rattle.config_assembly.specs.Reach.{reach}
 use Rattle.config_assembly.specs.ReachedResources.{resources}
 use Rattle.config_assembly.specs.Watching.{IsKept}
@@ -128,3 +129,15 @@ returns-in_ok-outcome-in-None-clause-others g c =
 
 pub returns-in_ok-outcome-in-None-clause-shown : goal.returns-in_ok-outcome-in-None-clause-shown
 returns-in_ok-outcome-in-None-clause-shown g c = c.in_ok-outcome-in-None.ensures.shown ∙ ap (λ d. option_or c.in_ok-outcome-in-None.outcome.config d.shown) c.take_last.ensures.rest
+
+pub returns-in_ok-outcome-in-Some-clause-stays : goal.returns-in_ok-outcome-in-Some-clause-stays
+returns-in_ok-outcome-in-Some-clause-stays g c says = c.in_ok-outcome-in-Some.ensures.stays.1 ∙ ap (λ d. d.reached) c.take_last.ensures.rest
+
+pub returns-in_ok-outcome-in-None-clause-stays : goal.returns-in_ok-outcome-in-None-clause-stays
+returns-in_ok-outcome-in-None-clause-stays g c says = absurd (true≢false (sym says ∙ c.in_ok-outcome-in-None.ensures.stays))
+
+pub returns-in_ok-outcome-in-Some-clause-follows : goal.returns-in_ok-outcome-in-Some-clause-follows
+returns-in_ok-outcome-in-Some-clause-follows g c last kept same endpoints = c.in_ok-outcome-in-Some.ensures.stays.0
+
+pub returns-in_ok-outcome-in-None-clause-follows : goal.returns-in_ok-outcome-in-None-clause-follows
+returns-in_ok-outcome-in-None-clause-follows g c last kept same endpoints = absurd (cc (sym c.in-None.is ∙ c.take_last.ensures.some last kept same (ap are_endpoints c.as_slice.ensures ∙ endpoints)))
