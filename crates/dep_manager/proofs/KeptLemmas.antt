@@ -31,15 +31,16 @@ use Rattle.dep_manager.specs.ShownEntries.{StandAsShown}
 use Rattle.dep_manager.specs.UpdateOutcomes.{IsOutcomeBy, outcome_of}
 use Rattle.dep_manager.specs.declared.kept_assembly.Kept.{Kept}
 use Rattle.dep_manager.proofs.DecideLemmas.{at_cluster, at_route, at_target, entry_same}
-use Rattle.dep_manager.proofs.ReachSteps.{found_same, front_same, has_member, is_reached, leaf_on_chain, map_same, reach_same, roots_same, waits_same}
+use Rattle.dep_manager.proofs.ReachSteps.{front_same, has_member, is_reached, leaf_on_chain, map_same, reach_same, roots_same, waits_same}
+use Rattle.dep_manager.proofs.SortedKeys.{kept_same, least_kept}
 
 -- ---- what an update comes to
 
 module _ (r : Resources) (reached : List Key) (kept : Kept) (is : IsAssembledOf r reached kept) where
-  least_is : least_of kept.awaited.keys reached ≡ missing r.fate reached
-  least_is = found_same (has_key kept.awaited.keys) (λ key. is_wanted (r.fate key)) reached (λ key has. is.awaited_are key (has_member reached key has))
+  least_is : least_of kept.awaited.keys ≡ missing r.fate reached
+  least_is = ap least_of is.awaited_are ∙ least_kept (λ key. is_wanted (r.fate key)) reached
 
-  least_reached : least_of kept.awaited.keys reached ≡ missing r.fate (reach r kept.references)
+  least_reached : least_of kept.awaited.keys ≡ missing r.fate (reach r kept.references)
   least_reached = least_is ∙ ap (missing r.fate) is.reached_are
 
   so_far_is : (found : Option (Result Front Reason)) → front r ≡ found → IsSome (option_map (config_with r kept.references) found) → Some (config_so_far r kept.references) ≡ option_map (config_with r kept.references) found
@@ -62,9 +63,9 @@ module _ (r : Resources) (reached : List Key) (kept : Kept) (is : IsAssembledOf 
   outcome_by stays marks lawful = record {
     reached_are = is.reached_are;
     missing_is = least_is;
-    config_is = config_by (least_of kept.awaited.keys reached) least_reached;
-    whole = whole_where r kept.references (least_of kept.awaited.keys reached) (config_if (least_of kept.awaited.keys reached) kept.config) is.front_waits least_reached (config_by (least_of kept.awaited.keys reached) least_reached);
-    lawful = lawful_if (least_of kept.awaited.keys reached) lawful;
+    config_is = config_by (least_of kept.awaited.keys) least_reached;
+    whole = whole_where r kept.references (least_of kept.awaited.keys) (config_if (least_of kept.awaited.keys) kept.config) is.front_waits least_reached (config_by (least_of kept.awaited.keys) least_reached);
+    lawful = lawful_if (least_of kept.awaited.keys) lawful;
   }
 
 -- ---- the same is known of the reached keys
@@ -118,7 +119,7 @@ module _ (r : Resources) (references : List Name) (fate : Key → Known) (agree 
       let keys : reached ≡ reach r references = is.reached_are ∙ ap (reach r) same in
       record {
         reached_are = keys ∙ sym (reach_same r references fate t p c) ∙ ap (reach other) (sym same);
-        awaited_are = λ key has. is.awaited_are key has ∙ ap is_wanted (sym (agree key (subst (λ ks. has_key ks key ≡ true) keys has)));
+        awaited_are = is.awaited_are ∙ kept_same (λ key. is_wanted (r.fate key)) (λ key. is_wanted (fate key)) reached (λ key has. ap is_wanted (sym (agree key (subst (λ ks. has_key ks key ≡ true) keys (has_member reached key has)))));
         config_is = config ∙ sym so_far_same ∙ ap (config_so_far other) (sym same);
         sources_are = is.sources_are ∙ sym (map_same (λ entry. sources_of other entry.state) (λ entry. sources_of r entry.state) kept.config.clusters (λ entry has. entry_known entry (subst (λ cs. Contains cs entry) (ap (λ x. x.clusters) config) has)));
         front_waits = waits_same r references fate t p c is.front_waits;

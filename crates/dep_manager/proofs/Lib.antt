@@ -7,3 +7,4 @@ pub mod PlaceLemmas
 pub mod ReachSteps
 pub mod RenewLemmas
 pub mod ShownLemmas
+pub mod SortedKeys

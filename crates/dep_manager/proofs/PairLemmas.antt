@@ -1,7 +1,5 @@
 -- Lists that are gone over together.
-use Rattle.std.proofs.Common.{◌≡◌, ℕ, zero, suc, ◌+◌, ◌<◌, ◌≤◌, refl, sym, ap, ap₂, ◌∙◌, arith, List, [], ◌∷◌, ◌++◌, length, get_or, drop, append-nil, append_assoc, Bool, true, false, Some}
-use Rattle.std.specs.Prelude.{if◌then◌else◌}
-use Rattle.std.specs.List.{find}
+use Rattle.std.proofs.Common.{◌≡◌, ℕ, zero, suc, ◌+◌, ◌<◌, ◌≤◌, refl, sym, ap, ap₂, ◌∙◌, arith, List, [], ◌∷◌, ◌++◌, length, get_or, drop, append-nil, append_assoc}
 use Rattle.std.proofs.lemmas.List.{drop_more}
 use Rattle.dep_manager.specs.RenewedConfigs.{paired}
 
@@ -36,16 +34,3 @@ pair_next f list new all items i item x y left rest lt is split made grown kept 
     ∙ ap (λ z. list ++ z ∷ paired f (drop (i + 1) items) rest) (made ∙ ap (λ z. f z y) is)
     ∙ ap₂ (λ zs ys. list ++ paired f zs ys) (sym (drop_more items i item lt)) (sym split)
     ∙ kept
-
--- ---- the first member that passes a test
-
-found_if : {X : Type 0} (p : X → Bool) (x : X) (xs : List X) (b : Bool) → p x ≡ b → find p (x ∷ xs) ≡ (if b then Some x else find p xs)
-found_if p x xs b is = ap (λ b. if b then Some x else find p xs) is
-
-pub found_here : {X : Type 0} (p : X → Bool) (xs : List X) (i : ℕ) (x : X) → i < length xs → x ≡ get_or xs i x → p x ≡ true → find p (drop i xs) ≡ find p xs → Some x ≡ find p xs
-found_here p xs i x lt is passes kept =
-    sym (found_if p x (drop (i + 1) xs) true passes) ∙ ap (λ y. find p (y ∷ drop (i + 1) xs)) is ∙ ap (find p) (sym (drop_more xs i x lt)) ∙ kept
-
-pub found_later : {X : Type 0} (p : X → Bool) (xs : List X) (i : ℕ) (x : X) → i < length xs → x ≡ get_or xs i x → p x ≡ false → find p (drop i xs) ≡ find p xs → find p (drop (i + 1) xs) ≡ find p xs
-found_later p xs i x lt is fails kept =
-    sym (found_if p x (drop (i + 1) xs) false fails) ∙ ap (λ y. find p (y ∷ drop (i + 1) xs)) is ∙ ap (find p) (sym (drop_more xs i x lt)) ∙ kept

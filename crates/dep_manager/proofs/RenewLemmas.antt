@@ -1,10 +1,14 @@
 -- What is kept once endpoints changed.
 use Rattle.std.proofs.Common.{◌≡◌, ℕ, suc, ◌<◌, arith, Bool, true, false, ◌||◌, Option, Some, None, Result, Ok, Err, List, [], ◌∷◌, map, take, length, get_or, refl, sym, ap, ap₂, ◌∙◌, subst, is_some}
-use Rattle.std.specs.Prelude.{◌≢◌, ◌^◌, All, AllPairs, Contains, IfOk, IfSome, if◌then◌else◌, option_and_then, option_map, unwrap_or}
+use Rattle.std.specs.Prelude.{◌≢◌, ◌^◌, ◌&&◌, All, AllPairs, Contains, IfOk, IfSome, filter, if◌then◌else◌, option_and_then, option_map, unwrap_or}
 use Rattle.std.specs.List.{list_any}
+use Rattle.std.specs.List.Sorted.{IsStrictlySortedBy}
 use Rattle.std.proofs.lemmas.Bool.{true≢false}
 use Rattle.std.proofs.lemmas.List.{get_or-map, length-map}
 use Rattle.std.proofs.lemmas.List.Elements.{All-cons}
+use Rattle.std.proofs.lemmas.List.Kept.{IsStrictlySortedBy-filter}
+use Rattle.xc_keys.specs.Keys.{key_cmp}
+use Rattle.xc_keys.proofs.KeyLemmas.{key_total}
 use Rattle.xc_keys.proofs.MemberLemmas.{here, there}
 use Rattle.xc_base.specs.declared.names.Kind.{Kind}
 use Rattle.xc_base.specs.declared.names.Key.{Key}
@@ -25,17 +29,18 @@ use Rattle.xds_cache.specs.declared.fate.Known.{Known}
 use Rattle.config_assembly.specs.Orders.{Name}
 use Rattle.config_assembly.specs.ReachedResources.{Resources, cluster_fate, resources}
 use Rattle.config_assembly.specs.Front.{front}
-use Rattle.config_assembly.specs.Reach.{aggregates, children_of, endpoint_name, is_wanted, reach, roots}
+use Rattle.config_assembly.specs.Reach.{aggregates, children_of, endpoint_name, is_wanted, keys_with, reach, reached_clusters, roots}
 use Rattle.config_assembly.specs.WholeConfigs.{cluster_entry, cluster_state, endpoints_of, leaf_of, leaf_state, leaves_state}
 use Rattle.config_assembly.specs.Watching.{has_key}
 use Rattle.dep_manager.specs.Laws.{with_fates}
-use Rattle.dep_manager.specs.EndpointNews.{AreLawfulNews, State, Told, are_endpoints, is_endpoint_kind, is_told, state_in}
+use Rattle.dep_manager.specs.EndpointNews.{AreLawfulNews, State, Told, are_endpoints, is_awaited, is_endpoint_kind, is_told, state_in}
 use Rattle.dep_manager.specs.RenewedConfigs.{leaf_with, renewed_config, renewed_entries, renewed_entry, renewed_leaf, renewed_leaves, renewed_state}
 use Rattle.dep_manager.specs.KeptAssemblies.{AreChanges, IsKeptOf, config_so_far, source_of, sources_of}
 use Rattle.dep_manager.specs.declared.kept_assembly.Kept.{Kept}
 use Rattle.dep_manager.proofs.NewsLemmas.{unchanged}
 use Rattle.dep_manager.proofs.KeptLemmas.{sources_named}
 use Rattle.dep_manager.proofs.ReachSteps.{front_same, leaves_same, map_same, reach_same, roots_same, waits_same}
+use Rattle.dep_manager.proofs.SortedKeys.{are_kept, has_kept, sorted_rises}
 
 -- ---- nothing is told
 
@@ -335,13 +340,29 @@ module _ (entries : List AuthorityEntry) (known now : Watched) (target : Target)
   at_some : (key : Key) (state : State) → state_in told key ≡ Some state → state ≡ endpoints_of (fate_of now key)
   at_some key state some = some_at key state (has_key changed key) (sym (news key) ∙ some)
 
-  awaited_at : (key : Key) (b waits : Bool) → has_key changed key ≡ b → waits ≡ is_wanted (fate_of known key) → (if b then is_wanted (fate_of now key) else waits) ≡ is_wanted (fate_of now key)
-  awaited_at key true waits has was = refl
-  awaited_at key false waits has was = was ∙ ap is_wanted (sym (stays key has))
+  awaited_at : (key : Key) (b waits : Bool) → has_key changed key ≡ b → waits ≡ (is_wanted (fate_of known key) && has_key reached key) → (if b then is_awaited now key else waits) ≡ (is_wanted (fate_of now key) && has_key reached key)
+  awaited_at key true waits has was = ap (λ watched. is_wanted (fate_of now key) && watched) (changes.watched key ∙ is.watched key)
+  awaited_at key false waits has was = was ∙ ap (λ fate. is_wanted fate && has_key reached key) (sym (stays key has))
+
+  rising : IsStrictlySortedBy key_cmp reached
+  rising = subst (IsStrictlySortedBy key_cmp) (sym is.assembled.reached_are) (sorted_rises key_cmp key_total (keys_with r (reached_clusters r last.references)))
+
+  abbrev waits_before : Key → Bool
+  waits_before key = is_wanted (fate_of known key)
+
+  rose : IsStrictlySortedBy key_cmp last.awaited.keys
+  rose = subst (IsStrictlySortedBy key_cmp) (sym is.assembled.awaited_are) (IsStrictlySortedBy-filter key_cmp waits_before reached rising)
+
+  awaited_now : (awaited : List Key) → ((key : Key) → has_key awaited key ≡ (if has_key changed key then is_awaited now key else has_key last.awaited.keys key)) → IsStrictlySortedBy key_cmp awaited →
+      awaited ≡ filter (λ key. is_wanted (fate_of now key)) reached
+  awaited_now awaited have also =
+      are_kept (λ key. is_wanted (fate_of now key)) reached awaited rising also
+      (λ key. have key ∙ awaited_at key (has_key changed key) (has_key last.awaited.keys key) refl (ap (λ keys. has_key keys key) is.assembled.awaited_are ∙ has_kept waits_before reached key))
 
   pub renewed_by : (kept : Kept) → AreLawfulNews told → kept.references ≡ last.references → kept.sources ≡ last.sources → kept.config ≡ renewed_config told last.config last.sources →
-      ((key : Key) → has_key kept.awaited.keys key ≡ (if has_key changed key then is_wanted (fate_of now key) else has_key last.awaited.keys key)) → IsKeptOf entries now target reached kept
-  renewed_by kept lawful references sources config awaited =
+      ((key : Key) → has_key kept.awaited.keys key ≡ (if has_key changed key then is_awaited now key else has_key last.awaited.keys key)) → (IsStrictlySortedBy key_cmp last.awaited.keys → IsStrictlySortedBy key_cmp kept.awaited.keys) →
+      IsKeptOf entries now target reached kept
+  renewed_by kept lawful references sources config awaited rises =
       let fate : Key → Known = fate_of now in
       let route : (name : Name) → fate (r.key Kind.Route name) ≡ r.fate (r.key Kind.Route name) = λ name. of_kind (r.key Kind.Route name) refl in
       let cluster : (name : Name) → fate (r.key Kind.Cluster name) ≡ r.fate (r.key Kind.Cluster name) = λ name. of_kind (r.key Kind.Cluster name) refl in
@@ -352,7 +373,7 @@ module _ (entries : List AuthorityEntry) (known now : Watched) (target : Target)
       record {
         assembled = record {
           reached_are = is.assembled.reached_are ∙ sym (reach_same r last.references fate no_listener (λ name named. route name) (λ name has. cluster name)) ∙ ap (reach (with_fates r fate)) (sym references);
-          awaited_are = λ key has. awaited key ∙ awaited_at key (has_key changed key) (has_key last.awaited.keys key) refl (is.assembled.awaited_are key has);
+          awaited_are = awaited_now kept.awaited.keys awaited (rises rose);
           config_is = made ∙ ap (config_so_far (with_fates r fate)) (sym references);
           sources_are = sources ∙ before ∙ sources_renewed r last.references fate told no_listener route cluster at_none at_some ∙ ap (λ c. map (λ entry. sources_of (with_fates r fate) entry.state) c.clusters) (sym made);
           front_waits = waits_same r last.references fate no_listener (λ name named. route name) (λ name has. cluster name) is.assembled.front_waits;

@@ -1,6 +1,5 @@
 -- What is kept from one update to the next, and when it is right.
-use Rattle.std.specs.Prelude.{◌≡◌, Bool, List, [], map, true, false, Option, None, Some, Result, Ok, Err, IfSome, is_some, option_map, unwrap_or}
-use Rattle.std.specs.List.{find}
+use Rattle.std.specs.Prelude.{◌≡◌, Bool, List, [], ◌∷◌, filter, map, false, Option, None, Some, Result, Ok, Err, IfSome, is_some, option_map, unwrap_or}
 use Rattle.std.specs.declared.alloc.Global.{Global}
 use Rattle.std.specs.declared.vec.Vec.{Vec}
 use Rattle.xc_base.specs.declared.names.Kind.{Kind}
@@ -33,9 +32,10 @@ sources_of r (Err reason) = []
 abbrev pub config_so_far : Resources → List Name → Config
 config_so_far r references = record { front = unwrap_or (front r) (Err Reason.Absent); clusters = map (cluster_entry r) (roots r references) }
 
--- the least of these keys that is among those that are awaited
-abbrev pub least_of : List Key → List Key → Option Key
-least_of awaited keys = find (has_key awaited) keys
+-- the least of keys in order
+abbrev pub least_of : List Key → Option Key
+least_of [] = None
+least_of (key ∷ keys) = Some key
 
 -- the configuration, where no key is awaited
 abbrev pub config_if : Option Key → Config → Option Config
@@ -49,7 +49,7 @@ kept_with kept marks = record { references = kept.references; awaited = kept.awa
 -- what is kept was made of what is known here
 pub record IsAssembledOf (r : Resources) (reached : List Key) (kept : Kept) : Type 0 where
   pub reached_are : reached ≡ reach r kept.references
-  pub awaited_are : (key : Key) → has_key reached key ≡ true → has_key kept.awaited.keys key ≡ is_wanted (r.fate key)
+  pub awaited_are : kept.awaited.keys ≡ filter (λ key. is_wanted (r.fate key)) reached
   pub config_is : kept.config ≡ config_so_far r kept.references
   pub sources_are : kept.sources ≡ map (λ entry. sources_of r entry.state) kept.config.clusters
   pub front_waits : front r ≡ None → IsFrontAwaited r

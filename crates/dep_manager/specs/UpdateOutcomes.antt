@@ -14,7 +14,7 @@ use Rattle.dep_manager.specs.KeptAssemblies.{config_if, least_of}
 
 -- by the keys that were reached, whether they are known to be those of the update before, and what was made, with these marks
 abbrev pub outcome_of : List Key → Bool → Kept → Vec Bool Global → Outcome
-outcome_of reached stays kept marks = record { reached = reached; missing = least_of kept.awaited.keys reached; config = config_if (least_of kept.awaited.keys reached) kept.config; others = marks; stays = stays }
+outcome_of reached stays kept marks = record { reached = reached; missing = least_of kept.awaited.keys; config = config_if (least_of kept.awaited.keys) kept.config; others = marks; stays = stays }
 
 -- by what is known, where these are the clusters to which calls refer
 pub record IsOutcomeBy (r : Resources) (references : List Name) (o : Outcome) : Type 0 where

@@ -85,7 +85,7 @@ fn outcome_of(
     ensures kept { kept.new ≡ kept_with kept.old kept.new.others }
     ensures left { IfOk result (λ o. kept.new.others.items ≡ marks_left o.missing kept.old.others.items) }
 {
-    let missing = kept.least(reached.as_slice())?;
+    let missing = kept.least()?;
     let config = kept.config_if(&missing)?;
     let others = kept.take_marks(alloc, &missing)?;
     Ok(Outcome {

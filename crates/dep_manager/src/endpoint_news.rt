@@ -1,14 +1,15 @@
 //! What is told of keys that changed.
-ghost use Rattle.std.specs.Prelude.{◌≡◌, ◌↔◌, ◌≤◌, ◌+◌, [], None, Some, IfOk, IsTrue, OnOk, false, length, option_map, if◌then◌else◌};
+ghost use Rattle.std.specs.Prelude.{◌≡◌, ◌↔◌, ◌≤◌, ◌+◌, [], None, Some, IfOk, IsTrue, OnOk, filter, length, option_map, if◌then◌else◌};
+ghost use Rattle.std.specs.List.Sorted.{IsStrictlySortedBy};
 ghost use Rattle.std.specs.Map.{keys_of};
 ghost use Rattle.xc_base.specs.declared.names.Key.{Key as KeyValue};
-ghost use Rattle.xc_keys.specs.Keys.{is_key};
+ghost use Rattle.xc_keys.specs.Keys.{is_key, key_cmp};
 ghost use Rattle.xds_config.specs.Endpoints.{IsLawfulEndpoints};
 ghost use Rattle.xds_cache.specs.KeptFates.{fate_of, shown};
 ghost use Rattle.config_assembly.specs.Reach.{is_wanted};
 ghost use Rattle.config_assembly.specs.Watching.{has_key};
 ghost use Rattle.config_assembly.specs.WholeConfigs.{endpoints_of};
-ghost use Rattle.dep_manager.specs.EndpointNews.{AreLawfulNews, are_endpoints, state_in};
+ghost use Rattle.dep_manager.specs.EndpointNews.{AreLawfulNews, are_endpoints, is_awaited, state_in};
 
 use std::alloc::Global;
 use std::collections::btree_map::Keys;
@@ -94,6 +95,14 @@ fn is_wanted(fate: Fate<'_>) -> bool
     matches!(fate, Fate::Wanted)
 }
 
+/// Whether a key that has this fate is watched, and nothing is known of it yet.
+fn is_awaited(cache: &Cache, key: &Key, fate: Fate<'_>) -> bool
+    requires { shown fate ≡ fate_of cache.now key.now }
+    ensures { result ≡ is_awaited cache.now key.now }
+{
+    is_wanted(fate) && cache.is_watched(key)
+}
+
 /// Whether all these are keys of Endpoint resources.
 pub fn are_endpoints(keys: &[Key]) -> bool
     ensures { result ≡ are_endpoints keys.now }
@@ -103,7 +112,8 @@ pub fn are_endpoints(keys: &[Key]) -> bool
 
 /// Puts a key among those that are awaited, or takes it from them.
 fn set_awaited(awaited: &mut BTreeSet<Key>, key: &Key, waits: bool) -> Result<(), Memory>
-    ensures { OnOk result ((other : KeyValue) → has_key awaited.new.keys other ≡ (if is_key key.now other then waits else has_key awaited.old.keys other)) }
+    ensures awaited { OnOk result ((other : KeyValue) → has_key awaited.new.keys other ≡ (if is_key key.now other then waits else has_key awaited.old.keys other)) }
+    ensures rising { OnOk result (IsStrictlySortedBy key_cmp awaited.new.keys) }
 {
     if waits {
         awaited.insert(key.clone()?)?;
@@ -113,14 +123,15 @@ fn set_awaited(awaited: &mut BTreeSet<Key>, key: &Key, waits: bool) -> Result<()
     Ok(())
 }
 
-/// Those of these keys that are awaited.
+/// Those of these keys that are awaited, where they are in order.
 pub fn awaited_of<L: Ledger>(
     alloc: Global,
     cache: &Cache,
     keys: &[Key],
     steps: &mut Steps<L>,
 ) -> Result<BTreeSet<Key>, Memory>
-    ensures { IfOk result (λ awaited. (key : KeyValue) → has_key awaited.keys key ≡ (if has_key keys.now key then is_wanted (fate_of cache.now key) else false)) }
+    requires { IsStrictlySortedBy key_cmp keys.now }
+    ensures { IfOk result (λ awaited. awaited.keys ≡ filter (λ key. is_wanted (fate_of cache.now key)) keys.now) }
 {
     let mut awaited = BTreeSet::new(alloc);
     for key in keys {
@@ -138,17 +149,18 @@ fn look<L: Ledger>(
     steps: &mut Steps<L>,
 ) -> Result<(), Memory>
     ensures news { OnOk result ((other : KeyValue) → state_in news.new other ≡ (if is_key key.now other then Some (endpoints_of (fate_of cache.now key.now)) else state_in news.old other)) }
-    ensures awaited { OnOk result ((other : KeyValue) → has_key awaited.new.keys other ≡ (if is_key key.now other then is_wanted (fate_of cache.now key.now) else has_key awaited.old.keys other)) }
+    ensures awaited { OnOk result ((other : KeyValue) → has_key awaited.new.keys other ≡ (if is_key key.now other then is_awaited cache.now key.now else has_key awaited.old.keys other)) }
+    ensures rising { OnOk result (IsStrictlySortedBy key_cmp awaited.new.keys) }
     ensures lawful { OnOk result (AreLawfulNews news.old → AreLawfulNews news.new) }
     ensures one_step { steps.new ≡ steps.old + 1 }
 {
     let fate = cache.get(key, steps);
-    set_awaited(awaited, key, is_wanted(fate))?;
+    set_awaited(awaited, key, is_awaited(cache, key, fate))?;
     let state = endpoints_of(fate)?;
     news.put(key, state)
 }
 
-/// What is told of these keys, of which those that are awaited are put among the others that are. Each counts one step.
+/// What is told of these keys, of which those that are watched and awaited are put among the others that are. Each counts one step.
 pub fn news_of<L: Ledger>(
     alloc: Global,
     cache: &Cache,
@@ -157,7 +169,8 @@ pub fn news_of<L: Ledger>(
     steps: &mut Steps<L>,
 ) -> Result<News, Memory>
     ensures news { IfOk result (λ news. (key : KeyValue) → state_in news key ≡ (if has_key changed.now key then Some (endpoints_of (fate_of cache.now key)) else None)) }
-    ensures awaited { OnOk result ((key : KeyValue) → has_key awaited.new.keys key ≡ (if has_key changed.now key then is_wanted (fate_of cache.now key) else has_key awaited.old.keys key)) }
+    ensures awaited { OnOk result ((key : KeyValue) → has_key awaited.new.keys key ≡ (if has_key changed.now key then is_awaited cache.now key else has_key awaited.old.keys key)) }
+    ensures rising { OnOk result (IsStrictlySortedBy key_cmp awaited.old.keys → IsStrictlySortedBy key_cmp awaited.new.keys) }
     ensures lawful { IfOk result AreLawfulNews }
     ensures cost { steps.new ≤ steps.old + length changed.now }
     ensures rises { steps.old ≤ steps.new }

@@ -1,6 +1,5 @@
 //! What is kept from one update to the next.
 ghost use Rattle.std.specs.Prelude.{◌≡◌, ◌≤◌, ◌+◌, List, Option, [], length, map, replicate, true, Some, Err, IfOk, IfSome, OnOk, unwrap_or};
-ghost use Rattle.std.specs.List.{find};
 ghost use Rattle.std.specs.List.Sorted.{IsStrictlySortedBy};
 ghost use Rattle.xc_base.specs.declared.names.Kind.TheVariants.{Listener as ListenerKind};
 ghost use Rattle.xc_base.specs.declared.names.Key.{Key as KeyValue};
@@ -14,8 +13,7 @@ ghost use Rattle.xds_cache.specs.KeptFates.{Watched};
 ghost use Rattle.config_assembly.specs.Orders.{name_cmp, sorted};
 ghost use Rattle.config_assembly.specs.Reach.{aggregates, on_chains as chains_from};
 ghost use Rattle.config_assembly.specs.WholeConfigs.{cluster_entry};
-ghost use Rattle.config_assembly.specs.Watching.{has_key};
-ghost use Rattle.config_assembly.specs.DepsViews.{seen, seen_key};
+ghost use Rattle.config_assembly.specs.DepsViews.{seen};
 ghost use Rattle.dep_manager.specs.EndpointNews.{are_endpoints};
 ghost use Rattle.dep_manager.specs.KeptAssemblies.{AreChanges, IsAssembledOf, IsKeptOf, config_if, kept_with, least_of};
 ghost use Rattle.dep_manager.specs.ShownEntries.{StandAsShown, marks_if, marks_left};
@@ -41,7 +39,7 @@ use xds_config::{Config, Front};
 pub struct Kept {
     /// The clusters to which calls referred.
     pub references: List<Text>,
-    /// Has of the reached keys those that are awaited.
+    /// Those of the reached keys that are awaited.
     pub awaited: BTreeSet<Key>,
     /// The configuration as far as it is known: what is awaited is absent from it.
     pub config: Shared<Config>,
@@ -198,24 +196,12 @@ pub fn renew<L: Ledger>(
 
 // ---- what it comes to
 
-/// The first of these keys that is among those that are awaited.
-fn first_of<'a>(awaited: &BTreeSet<Key>, keys: &'a [Key]) -> Option<&'a Key>
-    ensures { seen_key result ≡ find (has_key awaited.now.keys) keys.now }
-{
-    for key in keys {
-        if awaited.contains(key) {
-            return Some(key);
-        }
-    }
-    None
-}
-
 impl Kept {
-    /// The least of these keys that is awaited.
-    pub fn least(&self, keys: &[Key]) -> Result<Option<Key>, Memory>
-        ensures { IfOk result (λ least. least ≡ least_of self.now.awaited.keys keys.now) }
+    /// The least of the keys that are awaited.
+    pub fn least(&self) -> Result<Option<Key>, Memory>
+        ensures { IfOk result (λ least. least ≡ least_of self.now.awaited.keys) }
     {
-        match first_of(&self.awaited, keys) {
+        match self.awaited.first() {
             Some(key) => Ok(Some(key.clone()?)),
             None => Ok(None),
         }

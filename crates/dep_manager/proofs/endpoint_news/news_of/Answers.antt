@@ -1,9 +1,8 @@
 use Rattle.std.proofs.Common.{None, Some, arith}
 use Rattle.xds_cache.specs.KeptFates.{fate_of}
-use Rattle.config_assembly.specs.Reach.{is_wanted}
 use Rattle.config_assembly.specs.WholeConfigs.{endpoints_of}
 use Rattle.config_assembly.specs.Watching.{has_key}
-use Rattle.dep_manager.specs.EndpointNews.{state_in}
+use Rattle.dep_manager.specs.EndpointNews.{is_awaited, state_in}
 use Rattle.dep_manager.proofs.NewsLemmas.{told_next}
 use Rattle.dep_manager.proofs.endpoint_news.news_of.Goals as goal
 
@@ -11,8 +10,9 @@ pub loop-key-preserved : goal.loop-key-preserved
 loop-key-preserved g c = record {
   told = told_next (λ key. Some (endpoints_of (fate_of c.args.cache.now key))) (λ key. None) (state_in c.loop-key.news) (state_in c.look.new.news) c.args.changed.now c.loop-key.key-index c.key-item.result c.loop-key-test.true c.key-item.is
       c.in_ok-look.ensures.news c.loop-key.invariant.told;
-  waits = told_next (λ key. is_wanted (fate_of c.args.cache.now key)) (has_key c.args.awaited.now.keys) (has_key c.loop-key.awaited.keys) (has_key c.look.new.awaited.keys) c.args.changed.now c.loop-key.key-index c.key-item.result c.loop-key-test.true c.key-item.is
+  waits = told_next (is_awaited c.args.cache.now) (has_key c.args.awaited.now.keys) (has_key c.loop-key.awaited.keys) (has_key c.look.new.awaited.keys) c.args.changed.now c.loop-key.key-index c.key-item.result c.loop-key-test.true c.key-item.is
       c.in_ok-look.ensures.awaited c.loop-key.invariant.waits;
+  rising = λ rose. c.in_ok-look.ensures.rising;
   lawful = c.in_ok-look.ensures.lawful c.loop-key.invariant.lawful;
   counted = omega (arith, c.look.ensures.one_step, c.loop-key.invariant.counted);
 }

@@ -1,7 +1,9 @@
-use Rattle.std.proofs.Common.{◌≡◌, ◌++◌, map, false, sym, ap, ap₂, ◌∙◌, List, Option, Result, Err}
-use Rattle.std.specs.Prelude.{if◌then◌else◌, unwrap_or}
+use Rattle.std.proofs.Common.{◌≡◌, ◌++◌, map, sym, ap, ap₂, ◌∙◌, subst, List, Option, Result, Err}
+use Rattle.std.specs.Prelude.{filter, unwrap_or}
+use Rattle.std.specs.List.Sorted.{IsStrictlySortedBy}
 use Rattle.xc_base.specs.declared.reason.Reason.{Reason}
 use Rattle.xc_keys.specs.Keys.{key_cmp}
+use Rattle.xc_keys.proofs.KeyLemmas.{key_total}
 use Rattle.xds_config.specs.declared.config.Front.{Front}
 use Rattle.xds_config.specs.declared.config.ClusterEntry.{ClusterEntry}
 use Rattle.xds_config.specs.declared.config.Config.{Config}
@@ -11,9 +13,13 @@ use Rattle.config_assembly.specs.Front.{front, names_of}
 use Rattle.config_assembly.specs.Reach.{aggregates, is_wanted, keys_with, on_chains, reach, reached_clusters, roots}
 use Rattle.config_assembly.specs.WholeConfigs.{cluster_entry}
 use Rattle.config_assembly.specs.DepsViews.{seen}
-use Rattle.config_assembly.specs.Watching.{has_key}
 use Rattle.dep_manager.specs.KeptAssemblies.{sources_of}
+use Rattle.dep_manager.proofs.SortedKeys.{sorted_rises}
 use Rattle.dep_manager.proofs.kept_assembly.assembly_of.Goals as goal
+
+pub awaited_of-requires : goal.awaited_of-requires
+awaited_of-requires g c =
+    subst (IsStrictlySortedBy key_cmp) (sym (c.as_slice-2.ensures ∙ c.in_ok-reached.ensures)) (sorted_rises key_cmp key_total (keys_with (seen c.args.sight) c.as_slice.result.now))
 
 pub returns-clause-assembled : goal.returns-clause-assembled
 returns-clause-assembled g c =
@@ -23,7 +29,7 @@ returns-clause-assembled g c =
     let clusters : c.in_ok-on_chains.on_chains ≡ reached_clusters r c.args.references.now = c.in_ok-on_chains.ensures ∙ ap (λ names. sorted name_cmp (on_chains (aggregates r) 16 names)) all in
     record {
       reached_are = c.in_ok-reached.ensures ∙ ap (λ names. sorted key_cmp (keys_with r names)) (c.as_slice.ensures ∙ clusters) ∙ ap (reach r) (sym c.in_ok-references.ensures);
-      awaited_are = λ key has. c.in_ok-awaited.ensures key ∙ ap (λ b. if b then is_wanted (r.fate key) else false) (ap (λ keys. has_key keys key) c.as_slice-2.ensures ∙ has);
+      awaited_are = c.in_ok-awaited.ensures ∙ ap (filter (λ key. is_wanted (r.fate key))) c.as_slice-2.ensures;
       config_is = c.in_ok-config.ensures.config ∙ ap₂ config_as c.in_ok-front.ensures.front (ap (map (cluster_entry r)) all) ∙ ap (λ names. config_as (front r) (map (cluster_entry r) (roots r names))) (sym c.in_ok-references.ensures);
       sources_are = c.in_ok-sources.ensures ∙ ap (map (λ entry. sources_of r entry.state)) (c.as_slice-3.ensures ∙ ap (λ config. config.clusters) c.get.ensures);
       front_waits = λ none. c.in_ok-front.ensures.awaited (c.in_ok-front.ensures.front ∙ none);

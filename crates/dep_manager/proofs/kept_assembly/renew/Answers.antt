@@ -10,6 +10,7 @@ returns-clause-kept g c entries known target reached listener is changes =
     c.in_ok-news.ensures.lawful refl refl
     c.in_ok-renewed.ensures.config
     c.in_ok-news.ensures.awaited
+    c.in_ok-news.ensures.rising
 
 pub returns-clause-stands : goal.returns-clause-stands
 returns-clause-stands g c shown stand =
