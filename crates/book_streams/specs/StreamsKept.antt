@@ -1,4 +1,4 @@
--- Where the streams stand after a history, and between what came and the requests that are due by it.
+-- What is kept of the streams, and where they stand after a history, and between what came and the requests that are due by it.
 use Rattle.std.specs.Prelude.{ℕ, List, [], map, Bool, false, ◌&&◌, if◌then◌else◌, not, Option, Some, None, is_some, option_map, option_and_then}
 use Rattle.std.specs.List.{filter_map, range_with_len}
 use Rattle.std.specs.Option.{option_map_or}
@@ -17,6 +17,11 @@ use Rattle.xds_history.specs.Streams.{turn_by, before_turn, stream, asked}
 use Rattle.xds_history.specs.Responses.{Came, answered, told_of, version, nonce_on}
 use Rattle.xds_history.specs.Requests.{watched_names, version_with, nonce_with, error_with, is_silent}
 use Rattle.xds_history.specs.declared.page.Watched.{Watched}
+
+-- the states of all streams, and the keys that they were told last
+pub record StreamsKept : Type 0 where
+  pub states : List StreamState
+  pub told : List Key
 
 abbrev pub place_of : ℕ → Authority
 place_of n = record { 0 = n }

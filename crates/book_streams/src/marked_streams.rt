@@ -1,5 +1,5 @@
 //! The streams that are told which keys are watched.
-ghost use Rattle.std.specs.Prelude.{◌≡◌, List, length, OnOk, IfOk};
+ghost use Rattle.std.specs.Prelude.{◌≡◌, List, length, true, OnOk, IfOk};
 ghost use Rattle.ads_stream.specs.declared.stream.StreamState.{StreamState};
 ghost use Rattle.book_streams.specs.StreamsKept.{names_among};
 ghost use Rattle.book_streams.specs.Settling.{AreKept};
@@ -14,27 +14,30 @@ use call_journal::Sent;
 use std::alloc::Global;
 use xc_base::{Authority, Key, List, Memory};
 
-/// Keeps which keys are watched, and marks the streams of those authorities whose names are others than before. It fails for
-/// want of memory alone.
+/// Keeps which keys are watched, and marks the streams of those authorities whose names are others than before. Where the
+/// caller says that the keys stay, they are neither compared nor copied. It fails for want of memory alone.
 pub fn watch(
     alloc: Global,
     marks: &mut StreamMarks,
     told: &mut ToldKeys,
     keys: &[Key],
+    stays: bool,
 ) -> Result<(), Memory>
+    requires stays { stays ≡ true → keys.now ≡ told.old }
     ensures told { OnOk result (told.new ≡ keys.now) }
     ensures kept { (states : List StreamState) → AreKept states marks.old told.old → AreKept states marks.new told.new }
 {
-    if !are_same(told.as_slice(), keys) {
-        let next = ToldKeys::of(alloc, keys)?;
-        mark_changed(marks, told.as_slice(), keys);
-        *told = next;
+    if stays || are_same(told.as_slice(), keys) {
+        return Ok(());
     }
+    let next = ToldKeys::of(alloc, keys)?;
+    mark_changed(marks, told.as_slice(), keys);
+    *told = next;
     Ok(())
 }
 
-/// Tells the marked streams which keys are watched, which are these, and gives the requests that are due by it. All others are settled. It
-/// fails for want of memory alone, and then nothing is said of the streams that are marked.
+/// Tells the marked streams which keys are watched, which are these, and gives the requests that are due by it. All others are
+/// settled. It fails for want of memory alone, and then nothing is said of the streams that are marked.
 pub fn tell_marked(
     alloc: Global,
     streams: &mut Vec<Stream>,
@@ -45,6 +48,7 @@ pub fn tell_marked(
     ensures sent { IfOk result (λ sent. sent ≡ sent_first 0 (length streams.old.items) (names_among told.old) streams.old.items) }
     ensures state { OnOk result (streams.new.items ≡ told_first 0 (length streams.old.items) (names_among told.old) streams.old.items) }
     ensures kept { AreKept streams.new.items marks.new told.new }
+    ensures told { told.new ≡ told.old }
 {
     let mut sent = List::new(alloc);
     for place in marks.first()..marks.end() {

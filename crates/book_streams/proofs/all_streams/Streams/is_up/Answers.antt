@@ -3,4 +3,4 @@ use Rattle.book_streams.proofs.PlaceLemmas.{state_at}
 use Rattle.book_streams.proofs.all_streams.Streams.is_up.Goals as goal
 
 pub returns : goal.returns
-returns c = λ s past is. c.up_at.ensures (state_of s c.args.authority past) (state_at s past c.args.self.now c.args.authority is c.requires)
+returns c = λ s past is. c.up_at.ensures (state_of s c.args.authority past) (state_at s past c.args.self.now.states c.args.authority is c.requires)

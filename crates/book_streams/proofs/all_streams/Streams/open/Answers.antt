@@ -1,5 +1,6 @@
 use Rattle.std.proofs.Common.{slice_set, sym, subst, ap, ap₂, ◌∙◌}
 use Rattle.ads_stream.specs.StreamSteps.{opened}
+use Rattle.book_streams.specs.StreamsKept.{StreamsKept}
 use Rattle.book_streams.specs.Settling.{AreKept}
 use Rattle.book_streams.proofs.TellLemmas.{item_at, kept_marked}
 use Rattle.book_streams.proofs.all_streams.Streams.open.Goals as goal
@@ -9,7 +10,7 @@ invariant_of-self c =
     subst (λ marks. AreKept (slice_set c.self.inside.streams.items c.args.place c.opened.new.self) marks c.self.inside.told) (sym c.mark.ensures)
     (kept_marked c.self.inside.streams.items c.self.inside.marks c.self.inside.told c.args.place c.opened.new.self c.self.invariant)
 
-pub returns : goal.returns
-returns c = λ state at.
-    ap₂ (λ states x. slice_set states c.args.place x) c.self.view_is
-    (c.opened.ensures ∙ ap opened (item_at c.args.self.now c.self.inside.streams.items c.args.place c.index_mut.result.now state c.self.view_is c.requires c.index_mut.ensures.value at))
+pub returns-clause-state : goal.returns-clause-state
+returns-clause-state c = λ state at.
+    ap₂ (λ states x. slice_set states c.args.place x) (ap (λ (b : StreamsKept). b.states) c.self.view_is)
+    (c.opened.ensures ∙ ap opened (item_at c.args.self.now.states c.self.inside.streams.items c.args.place c.index_mut.result.now state (ap (λ (b : StreamsKept). b.states) c.self.view_is) c.requires c.index_mut.ensures.value at))
