@@ -11,5 +11,6 @@ pub mod PageLemmas
 pub mod QuietLemmas
 pub mod NameLemmas
 pub mod TouchLemmas
+pub mod TimedLemmas
 pub use Rattle.xds_history.proofs.dep_manager as dep_manager
 pub use Rattle.xds_history.proofs as xds_history

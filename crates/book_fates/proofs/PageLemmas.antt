@@ -132,4 +132,5 @@ callers_leave s past actor line event reply f kept =
       timed = are_timed past (pages s past) page f.timers f.timers (still_wanted (pages s past) page refl) kept.timed
           (λ key. kept.timed key ∙ called_at s past actor line event reply key key.home
           ∙ ap (λ o. retimed (is_open past page key key.home) (is_fresh page key.home) (is_asked_at page key key.home) page.now o) (sym (kept.timed key)));
+      waits = kept.waits;
     }

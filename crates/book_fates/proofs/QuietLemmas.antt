@@ -25,7 +25,7 @@ wanted_of None is = absurd (cc is)
 wanted_of (Some known) is = is
 
 -- a key that runs is wanted
-runs_wanted : (past : List Entry) (ps : List Page) (rows : Rows) (key : Key) (home : Home) → Knows rows (watched_now ps) → IsSome (timed_at past ps key home) → is_wanted (fate_at home (known_of rows key)) ≡ true
+pub runs_wanted : (past : List Entry) (ps : List Page) (rows : Rows) (key : Key) (home : Home) → Knows rows (watched_now ps) → IsSome (timed_at past ps key home) → is_wanted (fate_at home (known_of rows key)) ≡ true
 runs_wanted past ps rows key (Home.Nowhere fault) knows runs = absurd (cc runs)
 runs_wanted past ps rows key (Home.At a) knows runs =
     let (was, up) = runs_by (is_awaited (known_in (watched_now ps) key)) (is_up a past) (first_asked ps a key) runs in
@@ -43,13 +43,13 @@ unlost false o is = refl
 
 pub quiet_stays : QuietStays
 quiet_stays s c past ps now f none event kept =
-    marked_by s c past ps now None f f kept refl (unmarked_knows s c past ps now f.cache none event kept.knows)
+    marked_by s c past ps now None f f kept refl kept.waits (unmarked_knows s c past ps now f.cache none event kept.knows)
     (λ key. unlost (lost_among f.reached None f.cache key) (started_at f.timers key)
     (λ runs. not_lost (has_key f.reached key) (is_wanted (fate_at key.home (known_of f.cache key))) (runs_wanted past ps f.cache key key.home kept.knows (subst (λ o. IsSome o) (kept.timed key) runs))))
 
 -- ---- at a moment the keys that are due are those that are lost
 
-same_stop : (h l : Bool) (o : Option Time) → (IsSome o → h ≡ true → l ≡ true) → (IsSome o → h ≡ false → l ≡ false) → (if h then None else o) ≡ (if l then None else o)
+pub same_stop : (h l : Bool) (o : Option Time) → (IsSome o → h ≡ true → l ≡ true) → (IsSome o → h ≡ false → l ≡ false) → (if h then None else o) ≡ (if l then None else o)
 same_stop true true o hits none = refl
 same_stop false false o hits none = refl
 same_stop true false None hits none = refl

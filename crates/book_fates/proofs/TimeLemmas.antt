@@ -35,7 +35,7 @@ wanted_after (Mark.Invalid reason) (Known.Invalid other) is = absurd (cc is)
 wanted_after (Mark.Invalid reason) Known.Absent is = absurd (cc is)
 wanted_after Mark.Gone known is = absurd (cc is)
 
-wanted_before : (m : Option Mark) (known : Known) → is_wanted (after_marks m known) ≡ true → is_wanted known ≡ true
+pub wanted_before : (m : Option Mark) (known : Known) → is_wanted (after_marks m known) ≡ true → is_wanted known ≡ true
 wanted_before None known is = is
 wanted_before (Some m) known is = wanted_after m known is
 

@@ -27,8 +27,9 @@ use Rattle.xds_history.specs.declared.page.Watched.{Watched}
 use Rattle.xds_history.specs.Page.{watched_now}
 use Rattle.xds_history.specs.Fates.{marked, watch, fate_in}
 use Rattle.book_fates.specs.declared.timed_fates.Fates.{Fates}
+use Rattle.book_fates.specs.declared.timed_fates.Reached.{Reached}
 use Rattle.book_fates.specs.FateSteps.{Knows}
-use Rattle.book_fates.specs.Timing.{AreTimed, StoppedBy, lost_among, TurnsAt, AreAskedBy}
+use Rattle.book_fates.specs.Timing.{AreAllTimed, AreTimed, StoppedBy, lost_among, unreached_among, TurnsAt, AreAskedBy}
 
 abbrev pub keys_in : List Watched → List Key
 keys_in watched = map (λ w. w.key) watched
@@ -38,6 +39,7 @@ pub record IsKeptAt (past : List Entry) (ps : List Page) (f : Fates) : Type 0 wh
   pub knows : Knows f.cache (watched_now ps)
   pub keys_are : f.reached ≡ keys_in (watched_now ps)
   pub timed : AreTimed past ps f.timers
+  pub waits : f.are_timed ≡ true → AreAllTimed f.reached f.cache f.timers
 
 -- within an entry, after what came, before it is known what is reached: timers of what isn't wanted any more, or whose
 -- stream turned, don't run
@@ -47,6 +49,17 @@ pub record IsMarkedAt (s : Setting) (c : Came) (past : List Entry) (ps : List Pa
   pub before : Running
   pub timed : AreTimed past ps before
   pub lost : StoppedBy before f.timers (lost_among f.reached turn f.cache)
+  pub waits : f.are_timed ≡ true → AreAllTimed f.reached f.cache f.timers
+
+-- the timers of the keys that aren't among these ended, and the keys from before stand
+pub record IsLeftBy (marks left : Fates) (reached : List Key) : Type 0 where
+  pub keys_are : left.reached ≡ marks.reached
+  pub timed_is : left.are_timed ≡ marks.are_timed
+  pub stopped : StoppedBy marks.timers left.timers (unreached_among marks.reached reached)
+
+-- where the same keys stay reached, and each that was awaited had a timer, each that is awaited has one
+abbrev pub StayTimed : Fates → Reached → Type 0
+StayTimed f next = next.stays ≡ true → f.are_timed ≡ true → AreAllTimed next.keys f.cache f.timers
 
 abbrev pub is_moment : DriverEvent → Bool
 is_moment (DriverEvent.Moment time) = true

@@ -129,3 +129,13 @@ first_among reached sent rows key = has_key reached key && is_first sent rows ke
 -- a request of a reached key's kind goes to its home where that stream is up and the key is asked for
 abbrev pub AreAskedBy : List Sent → List Key → List Entry → Page → Type 0
 AreAskedBy sent reached past p = (key : Key) (a : Authority) → key.home ≡ Home.At a → has_key reached key ≡ true → asks_at sent key (Home.At a) ≡ (is_up a (p.entry ∷ past) && is_asked_in a key p.entry)
+
+-- ---- which keys have timers
+
+-- the key has a timer, where it is wanted
+abbrev pub IsTimed : Rows → Running → Key → Type 0
+IsTimed rows timers key = is_wanted (fate_of rows key) ≡ true → IsSome (started_at timers key)
+
+-- so has each of these
+abbrev pub AreAllTimed : List Key → Rows → Running → Type 0
+AreAllTimed keys rows timers = (key : Key) → has_key keys key ≡ true → IsTimed rows timers key

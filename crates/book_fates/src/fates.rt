@@ -1,5 +1,5 @@
 //! What an answered response, and time, make of what is known of watched keys.
-ghost use Rattle.std.specs.Prelude.{◌≡◌, ◌++◌, ◌∷◌, [], List, Some, IsOk, OnOk, IfOk, filter, if◌then◌else◌, length, option_map, true};
+ghost use Rattle.std.specs.Prelude.{◌≡◌, ◌++◌, ◌∷◌, [], List, Some, IsOk, OnOk, IfOk, filter, if◌then◌else◌, length, option_map, true, false};
 ghost use Rattle.xc_base.specs.declared.names.Key.{Key as KeyValue};
 ghost use Rattle.xds_cache.specs.KeptFates.{known_of, shown};
 ghost use Rattle.xds_history.specs.Fates.{deletes, has_value, lacks};
@@ -118,7 +118,8 @@ fn let_each_go<L: Ledger>(
 /// Lets go those of the keys that the response lacks. Where its kind deletes none it looks at no key. It takes no memory.
 fn let_go<L: Ledger>(cache: &mut Cache, response: &Answered, keys: &[Key], steps: &mut Steps<L>)
     requires { deletes response.now.kind ≡ true → AreNamesOf response.now.parts response.now.names }
-    ensures { Stepped cache.old cache.new (gone_among (told_as (delivered_in response.now)) keys.now) }
+    ensures step { Stepped cache.old cache.new (gone_among (told_as (delivered_in response.now)) keys.now) }
+    ensures still { deletes response.now.kind ≡ false → steps.new ≡ steps.old }
 {
     if deletes(response.kind) {
         let_each_go(cache, response, keys, steps);
@@ -236,6 +237,7 @@ pub fn take_told<L: Ledger>(
     requires only { WatchesOnly cache.old keys.now }
     ensures ok { IsOk result }
     ensures step { Stepped cache.old cache.new (told_step (told_as (delivered_in response))) }
+    ensures still { deletes response.kind ≡ false → steps.new ≡ steps.old }
     ensures knows { (s : Setting) (c : Came) (past : List EntryValue) (ps : List PageValue) (now : TimeValue) → option_map delivered_by (answered s c) ≡ Some (delivered_in response) → Knows cache.old (watched_now ps) → Knows cache.new (marked s c past ps now) }
 {
     let_go(cache, &response, keys, steps);

@@ -14,5 +14,5 @@ pub mod timing;
 
 pub use answered::Answered;
 pub use part_names::PartNames;
-pub use timed_fates::Fates;
+pub use timed_fates::{Fates, Reached};
 pub use xds_history::{Delivery, Prepared, Reading};

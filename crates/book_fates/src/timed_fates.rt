@@ -1,5 +1,5 @@
 //! The fates of watched keys, and their timers.
-ghost use Rattle.std.specs.Prelude.{◌≡◌, ◌≤◌, ◌∷◌, List, Option, Some, None, false, IsOk, OnOk, IfOk, length, option_map};
+ghost use Rattle.std.specs.Prelude.{◌≡◌, ◌≤◌, ◌+◌, ◌∷◌, List, Option, Some, None, true, false, IsOk, OnOk, IfOk, length, option_map};
 ghost use Rattle.xc_base.specs.declared.names.Authority.{Authority as AuthorityValue};
 ghost use Rattle.xc_base.specs.declared.names.Time.{Time as TimeValue};
 ghost use Rattle.call_journal.specs.declared.event.DriverEvent.{DriverEvent as EventValue};
@@ -8,12 +8,12 @@ ghost use Rattle.config_assembly.specs.Watching.{IsWatching};
 ghost use Rattle.xds_history.specs.Setting.{Setting};
 ghost use Rattle.xds_history.specs.Responses.{Came, answered};
 ghost use Rattle.xds_history.specs.declared.page.Page.{Page as PageValue};
-ghost use Rattle.xds_history.specs.Fates.{marked, watch};
+ghost use Rattle.xds_history.specs.Fates.{deletes, marked, watch};
 ghost use Rattle.book_fates.specs.declared.timed_fates.Fates.{Fates as FatesValue};
 ghost use Rattle.book_fates.specs.FateSteps.{Stepped, WatchesOnly, out_among, told_step};
 ghost use Rattle.book_fates.specs.Delivered.{AreTheirs, HasTouched, IsReady, delivered_by, delivered_in, most_touched, told_as};
-ghost use Rattle.book_fates.specs.Timing.{AreAskedBy, NoneWanted, StoppedBy, TurnsAt, unreached_among};
-ghost use Rattle.book_fates.specs.FatesKept.{IsKeptAt, IsMarkedAt, is_moment};
+ghost use Rattle.book_fates.specs.Timing.{AreAllTimed, AreAskedBy, NoneWanted, StartedBy, TurnsAt, first_among};
+ghost use Rattle.book_fates.specs.FatesKept.{IsKeptAt, IsLeftBy, IsMarkedAt, StayTimed, is_moment};
 
 use crate::answered::Answered;
 use crate::fates::{take_told, touched_of};
@@ -26,6 +26,17 @@ use watch_timers::Timers;
 use xc_base::{Authority, Key, List, Memory, Steps, Time};
 use xds_cache::Cache;
 
+/// What is reached at an entry.
+#[derive(Drop)]
+pub struct Reached {
+    /// The keys, in their order, each once.
+    pub keys: SharedKeys,
+    /// Whether they are known to be those that were reached before.
+    pub stays: bool,
+    /// Whether any of them is awaited.
+    pub awaits: bool,
+}
+
 /// What is kept of the keys that are watched.
 #[derive(Drop)]
 pub struct Fates {
@@ -35,6 +46,8 @@ pub struct Fates {
     pub timers: Timers,
     /// The keys, in their order, each once.
     pub reached: SharedKeys,
+    /// Whether each of them that is awaited is known to have a timer.
+    pub are_timed: bool,
 }
 
 impl Fates {
@@ -58,26 +71,24 @@ impl Fates {
 
     /// Takes in an answered response. Valid resources replace what is known of their keys; an
     /// invalid one leaves a value that is there (Envoy's xDS transport, gRFC A47); listeners and clusters that the response
-    /// lacks are deleted. What came or was deleted is waited for no longer. It takes no memory.
+    /// lacks are deleted. What came or was deleted is waited for no longer; of timers only those of the keys that the response
+    /// touches are looked at. It takes no memory.
     pub fn take<L: Ledger>(
         &mut self,
         response: Answered,
+        touched: &[Key],
         steps: &mut Steps<L>,
     ) -> Result<(), Memory>
         requires ready { IsReady response }
         requires only { WatchesOnly self.old.cache self.old.reached }
+        requires touched { HasTouched (Some response) self.old.cache touched.now }
         ensures ok { IsOk result }
         ensures step { Stepped self.old.cache self.new.cache (told_step (told_as (delivered_in response))) }
+        ensures cost { deletes response.kind ≡ false → steps.new ≤ steps.old + length touched.now }
         ensures marked { (s : Setting) (c : Came) (past : List EntryValue) (ps : List PageValue) (now : TimeValue) → option_map delivered_by (answered s c) ≡ Some (delivered_in response) → IsKeptAt past ps self.old → IsMarkedAt s c past ps now None self.new }
     {
         take_told(&mut self.cache, response, self.reached.as_slice(), steps)?;
-        stop_lost(
-            &mut self.timers,
-            &self.cache,
-            self.reached.as_slice(),
-            None,
-            steps,
-        );
+        stop_lost(&mut self.timers, &self.cache, touched, None, steps);
         Ok(())
     }
 
@@ -89,14 +100,23 @@ impl Fates {
         ensures marked { OnOk result ((s : Setting) (c : Came) (past : List EntryValue) (ps : List PageValue) (time : TimeValue) → c.event ≡ EventValue.Moment time → IsKeptAt past ps self.old → IsMarkedAt s c past ps now None self.new) }
     {
         let keys = expire(&mut self.cache, &mut self.timers, now)?;
+        if !keys.as_slice().is_empty() {
+            self.are_timed = false;
+        }
         Ok(keys)
     }
 
-    /// Takes in that the stream of an authority was opened or ended, or none: no timer runs on over that. It takes no memory.
+    /// Takes in that the stream of an authority was opened or ended, or none: no timer runs on over that. Where none was, no
+    /// key is looked at. It takes no memory.
     pub fn turn<L: Ledger>(&mut self, turn: Option<Authority>, steps: &mut Steps<L>)
         ensures cache { self.new.cache ≡ self.old.cache }
+        ensures still { turn ≡ None → steps.new ≡ steps.old }
         ensures marked { (s : Setting) (c : Came) (past : List EntryValue) (ps : List PageValue) (now : TimeValue) → answered s c ≡ None → is_moment c.event ≡ false → IsKeptAt past ps self.old → IsMarkedAt s c past ps now turn self.new }
     {
+        if turn.is_none() {
+            return;
+        }
+        self.are_timed = false;
         stop_lost(
             &mut self.timers,
             &self.cache,
@@ -106,41 +126,76 @@ impl Fates {
         );
     }
 
-    /// Ends the timers of the watched keys that are no longer reached. It fails for want of memory alone.
-    pub fn leave(&mut self, alloc: Global, reached: &[Key]) -> Result<(), Memory>
+    /// Ends the timers of the watched keys that are no longer reached. Where the same keys stay reached it looks at none. It
+    /// fails for want of memory alone.
+    pub fn leave(&mut self, alloc: Global, next: &Reached) -> Result<(), Memory>
+        requires stays { next.now.stays ≡ true → next.now.keys ≡ self.old.reached }
         ensures cache { OnOk result (self.new.cache ≡ self.old.cache) }
-        ensures keys { OnOk result (self.new.reached ≡ self.old.reached) }
-        ensures timers { OnOk result (StoppedBy self.old.timers self.new.timers (unreached_among self.old.reached reached.now)) }
+        ensures left { OnOk result (IsLeftBy self.old self.new next.now.keys) }
     {
-        stop_unreached(alloc, &mut self.timers, self.reached.as_slice(), reached)
+        if next.stays {
+            return Ok(());
+        }
+        stop_unreached(
+            alloc,
+            &mut self.timers,
+            self.reached.as_slice(),
+            next.keys.as_slice(),
+        )
     }
 
-    /// Starts timers once the cache watches what is reached and the requests are known, and the timers of what is no longer
-    /// reached ended: a wanted key that is asked for first has one from now on. Where none is awaited it looks at no key. It
-    /// fails for want of memory alone, and then nothing is said of what is kept.
-    pub fn settle<L: Ledger>(
+    /// Starts the timers of the reached keys that are wanted and asked for first. Where none is awaited it looks at no key, nor
+    /// where the same keys stay reached and each one that is awaited has a timer.
+    fn start<L: Ledger>(
         &mut self,
-        reached: SharedKeys,
-        awaits: bool,
+        next: &Reached,
         sent: &[Sent],
         now: Time,
         steps: &mut Steps<L>,
     ) -> Result<(), Memory>
-        requires awaits { awaits ≡ false → NoneWanted self.old.cache reached }
+        requires awaits { next.now.awaits ≡ false → NoneWanted self.old.cache next.now.keys }
         ensures cache { OnOk result (self.new.cache ≡ self.old.cache) }
-        ensures kept { OnOk result ((s : Setting) (c : Came) (past : List EntryValue) (ps : List PageValue) (page : PageValue) (turn : Option AuthorityValue) (marks : FatesValue) → IsMarkedAt s c past ps now turn marks → StoppedBy marks.timers self.old.timers (unreached_among marks.reached reached) → IsWatching marks.cache self.old.cache reached → page.watched ≡ watch (marked s c past ps now) reached → page.now ≡ now → TurnsAt turn page → AreAskedBy sent.now reached past page → IsKeptAt (page.entry ∷ past) (page ∷ ps) self.new) }
+        ensures started { OnOk result (StayTimed self.old next.now → StartedBy self.old.timers self.new.timers (first_among next.now.keys sent.now self.old.cache) now) }
+        ensures timed { OnOk result (StayTimed self.old next.now → self.new.are_timed ≡ true → AreAllTimed next.now.keys self.old.cache self.new.timers) }
+        ensures still { next.now.stays ≡ true → self.old.are_timed ≡ true → steps.new ≡ steps.old }
     {
-        if awaits {
-            start_first(
-                &mut self.timers,
-                &self.cache,
-                reached.as_slice(),
-                sent,
-                now,
-                steps,
-            )?;
+        if !next.awaits {
+            self.are_timed = true;
+            return Ok(());
         }
-        self.reached = reached;
+        if next.stays && self.are_timed {
+            return Ok(());
+        }
+        self.are_timed = start_first(
+            &mut self.timers,
+            &self.cache,
+            next.keys.as_slice(),
+            sent,
+            now,
+            steps,
+        )?;
+        Ok(())
+    }
+
+    /// Starts timers once the cache watches what is reached and the requests are known, and the timers of what is no longer
+    /// reached ended: a wanted key that is asked for first has one from now on. Where none is awaited it looks at no key, nor
+    /// where the same keys stay reached and each one that is awaited has a timer. It fails for want of memory alone, and then
+    /// nothing is said of what is kept.
+    pub fn settle<L: Ledger>(
+        &mut self,
+        next: Reached,
+        sent: &[Sent],
+        now: Time,
+        steps: &mut Steps<L>,
+    ) -> Result<(), Memory>
+        requires awaits { next.awaits ≡ false → NoneWanted self.old.cache next.keys }
+        requires stays { next.stays ≡ true → next.keys ≡ self.old.reached }
+        ensures cache { OnOk result (self.new.cache ≡ self.old.cache) }
+        ensures still { next.stays ≡ true → self.old.are_timed ≡ true → steps.new ≡ steps.old }
+        ensures kept { OnOk result ((s : Setting) (c : Came) (past : List EntryValue) (ps : List PageValue) (page : PageValue) (turn : Option AuthorityValue) (marks : FatesValue) → IsMarkedAt s c past ps now turn marks → IsLeftBy marks self.old next.keys → IsWatching marks.cache self.old.cache next.keys → page.watched ≡ watch (marked s c past ps now) next.keys → page.now ≡ now → TurnsAt turn page → AreAskedBy sent.now next.keys past page → IsKeptAt (page.entry ∷ past) (page ∷ ps) self.new) }
+    {
+        self.start(&next, sent, now, steps)?;
+        self.reached = next.keys;
         Ok(())
     }
 }

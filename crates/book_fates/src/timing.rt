@@ -1,10 +1,10 @@
 //! The timers of wanted keys.
-ghost use Rattle.std.specs.Prelude.{◌≡◌, ◌∷◌, ◌&&◌, List, OnOk, IfOk};
+ghost use Rattle.std.specs.Prelude.{◌≡◌, ◌≤◌, ◌+◌, ◌∷◌, ◌&&◌, List, true, false, length, OnOk, IfOk};
 ghost use Rattle.xc_base.specs.declared.names.Key.{Key as KeyValue};
 ghost use Rattle.xc_base.specs.declared.names.Time.{Time as TimeValue};
 ghost use Rattle.call_journal.specs.declared.event.DriverEvent.{DriverEvent as EventValue};
 ghost use Rattle.call_journal.specs.declared.entry.Entry.{Entry as EntryValue};
-ghost use Rattle.watch_timers.specs.Timers.{TakesDue};
+ghost use Rattle.watch_timers.specs.Timers.{Starts, TakesDue};
 ghost use Rattle.xds_cache.specs.KeptFates.{fate_of, known_of, shown};
 ghost use Rattle.config_assembly.specs.Reach.{is_wanted};
 ghost use Rattle.xds_history.specs.Words.{same_authority, same_kind};
@@ -16,7 +16,7 @@ ghost use Rattle.xds_history.specs.declared.page.Page.{Page as PageValue};
 ghost use Rattle.xds_history.specs.Page.{watched_now};
 ghost use Rattle.xds_history.specs.Fates.{marked};
 ghost use Rattle.book_fates.specs.FateSteps.{Knows, Stepped, out_among};
-ghost use Rattle.book_fates.specs.Timing.{AreTimed, expires_at, StoppedBy, StartedBy, is_turned, is_lost, lost_among, unreached_among, asks_at, is_first, first_among};
+ghost use Rattle.book_fates.specs.Timing.{AreAllTimed, AreTimed, IsTimed, expires_at, StoppedBy, StartedBy, is_turned, is_lost, lost_among, unreached_among, asks_at, is_first, first_among};
 
 use crate::fates::take_out;
 use crate::key_set::key_set;
@@ -67,7 +67,8 @@ fn is_lost<L: Ledger>(
     key: &Key,
     steps: &mut Steps<L>,
 ) -> bool
-    ensures { result ≡ is_lost turn cache.now key.now }
+    ensures lost { result ≡ is_lost turn cache.now key.now }
+    ensures cost { steps.new ≤ steps.old + 1 }
 {
     is_turned(turn, key.home) || !is_wanted(cache.get(key, steps))
 }
@@ -80,7 +81,8 @@ fn stop_each_lost<L: Ledger>(
     turn: Option<Authority>,
     steps: &mut Steps<L>,
 )
-    ensures { StoppedBy timers.old timers.new (lost_among before.now turn cache.now) }
+    ensures stopped { StoppedBy timers.old timers.new (lost_among before.now turn cache.now) }
+    ensures cost { steps.new ≤ steps.old + length before.now }
 {
     for key in before {
         if is_lost(turn, cache, key, steps) {
@@ -98,7 +100,8 @@ pub fn stop_lost<L: Ledger>(
     turn: Option<Authority>,
     steps: &mut Steps<L>,
 )
-    ensures { StoppedBy timers.old timers.new (lost_among before.now turn cache.now) }
+    ensures stopped { StoppedBy timers.old timers.new (lost_among before.now turn cache.now) }
+    ensures cost { steps.new ≤ steps.old + length before.now }
 {
     if !timers.is_empty() {
         stop_each_lost(timers, cache, before, turn, steps);
@@ -157,14 +160,30 @@ fn asks(sent: &[Sent], key: &Key) -> bool
     }
 }
 
-/// Whether the key is asked for and wanted.
-fn is_first<L: Ledger>(sent: &[Sent], cache: &Cache, key: &Key, steps: &mut Steps<L>) -> bool
-    ensures { result ≡ is_first sent.now cache.now key.now }
+/// Starts the timer of a key that is wanted and asked for. It answers whether the key is known to have a timer, or isn't wanted.
+/// It fails for want of memory alone.
+fn start_where_first<L: Ledger>(
+    timers: &mut Timers,
+    cache: &Cache,
+    key: &Key,
+    sent: &[Sent],
+    now: Time,
+    steps: &mut Steps<L>,
+) -> Result<bool, Memory>
+    ensures first { OnOk result (is_first sent.now cache.now key.now ≡ true → Starts timers.old timers.new key.now now) }
+    ensures others { OnOk result (is_first sent.now cache.now key.now ≡ false → timers.new ≡ timers.old) }
+    ensures timed { IfOk result (λ is_timed. is_timed ≡ true → IsTimed cache.now timers.new key.now) }
 {
-    asks(sent, key) && is_wanted(cache.get(key, steps))
+    let waits = is_wanted(cache.get(key, steps));
+    if waits && asks(sent, key) {
+        timers.start(key, now)?;
+        return Ok(true);
+    }
+    Ok(!waits || timers.is_running(key))
 }
 
-/// Starts the timers of those of these keys that are wanted and asked for. It fails for want of memory alone.
+/// Starts the timers of those of these keys that are wanted and asked for. It answers whether each one that is wanted is known to
+/// have a timer. It fails for want of memory alone.
 pub fn start_first<L: Ledger>(
     timers: &mut Timers,
     cache: &Cache,
@@ -172,13 +191,16 @@ pub fn start_first<L: Ledger>(
     sent: &[Sent],
     now: Time,
     steps: &mut Steps<L>,
-) -> Result<(), Memory>
-    ensures { OnOk result (StartedBy timers.old timers.new (first_among reached.now sent.now cache.now) now) }
+) -> Result<bool, Memory>
+    ensures started { OnOk result (StartedBy timers.old timers.new (first_among reached.now sent.now cache.now) now) }
+    ensures timed { IfOk result (λ are_timed. are_timed ≡ true → AreAllTimed reached.now cache.now timers.new) }
 {
+    let mut are_timed = true;
     for key in reached {
-        if is_first(sent, cache, key, steps) {
-            timers.start(key, now)?;
+        let is_timed = start_where_first(timers, cache, key, sent, now, steps)?;
+        if !is_timed {
+            are_timed = false;
         }
     }
-    Ok(())
+    Ok(are_timed)
 }

@@ -122,6 +122,7 @@ left past ps p f watched turns none kept = record {
   timed = are_timed past ps p f.timers f.timers (still_wanted ps p watched) kept.timed
       (λ key. kept.timed key ∙ left_at past ps p key key.home watched turns none
       ∙ ap (λ o. retimed (is_open past p key key.home) (is_fresh p key.home) (is_asked_at p key key.home) p.now o) (sym (kept.timed key)));
+  waits = kept.waits;
 }
 
 pub reports_leave_fates : ReportsLeaveFates

@@ -5,5 +5,5 @@
 
 pub mod step_laws;
 
-pub use book_fates::{Answered, Fates};
+pub use book_fates::{Answered, Fates, Reached};
 pub use book_streams::Streams;
