@@ -33,11 +33,12 @@ pub struct Heard {
 
 /// Answers a response: with an Ack where each resource is valid, else with a Nack.
 fn answer(alloc: Global, streams: &mut Streams, response: Answerable) -> Result<Heard, Memory>
-    requires known { response.authority.0 < length streams.old }
+    requires known { response.authority.0 < length streams.old.states }
     requires deliverable { AreDeliverable response }
-    ensures heard { IfOk result (λ heard. (s : Setting) (past : List EntryValue) (event : EventValue) → streams.old ≡ states_of s past → IsAnswerable s past event response → IsHeard s past event streams.new heard) }
+    ensures heard { IfOk result (λ heard. (s : Setting) (past : List EntryValue) (event : EventValue) → streams.old.states ≡ states_of s past → IsAnswerable s past event response → IsHeard s past event streams.new.states heard) }
     ensures ready { IfOk result (λ heard. IfSome heard.answered IsReady) }
     ensures texts { IfOk result (λ heard. (prepared : Option PreparedValue) → response.refused ≡ texts_of prepared → heard.refused ≡ texts_told heard.answered prepared) }
+    ensures told { streams.new.told ≡ streams.old.told }
     ensures err { OnErr result (streams.new ≡ streams.old) }
 {
     let names = PartNames::asked(alloc, response.kind, response.parts.as_slice())?;
@@ -63,11 +64,12 @@ fn answer(alloc: Global, streams: &mut Streams, response: Answerable) -> Result<
 
 /// An event with a verdict that is no answer.
 fn leave(alloc: Global, streams: &mut Streams, event: &DriverEvent, verdict: Verdict) -> Heard
-    requires known { IfSome (authority_in event.now) (λ a. a.0 < length streams.old) }
+    requires known { IfSome (authority_in event.now) (λ a. a.0 < length streams.old.states) }
     requires unanswered { history.answered_kind verdict ≡ None }
-    ensures heard { (s : Setting) (past : List EntryValue) → streams.old ≡ states_of s past → verdict ≡ history.verdict s past event.now [] → IsHeard s past event.now streams.new result }
+    ensures heard { (s : Setting) (past : List EntryValue) → streams.old.states ≡ states_of s past → verdict ≡ history.verdict s past event.now [] → IsHeard s past event.now streams.new.states result }
     ensures none { result.answered ≡ None }
     ensures texts { result.refused ≡ [] }
+    ensures told { streams.new.told ≡ streams.old.told }
 {
     streams.turn(event, verdict);
     Heard {
@@ -86,11 +88,12 @@ pub fn hear(
     event: &DriverEvent,
     prepared: Option<Prepared>,
 ) -> Result<Heard, Memory>
-    requires known { IfSome (authority_in event.now) (λ a. a.0 < length streams.old) }
+    requires known { IfSome (authority_in event.now) (λ a. a.0 < length streams.old.states) }
     requires prepared { IsPreparedFor event.now prepared }
-    ensures heard { IfOk result (λ heard. (boot : BootstrapValue) (target : TargetValue) (past : List EntryValue) → streams.old ≡ states_of (setting_of boot target) past → IsHeard (setting_of boot target) past event.now streams.new heard) }
+    ensures heard { IfOk result (λ heard. (boot : BootstrapValue) (target : TargetValue) (past : List EntryValue) → streams.old.states ≡ states_of (setting_of boot target) past → IsHeard (setting_of boot target) past event.now streams.new.states heard) }
     ensures ready { IfOk result (λ heard. IfSome heard.answered IsReady) }
     ensures texts { IfOk result (λ heard. heard.refused ≡ texts_told heard.answered prepared) }
+    ensures told { streams.new.told ≡ streams.old.told }
     ensures err { OnErr result (streams.new ≡ streams.old) }
 {
     match judge(streams, event, prepared) {

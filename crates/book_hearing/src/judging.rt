@@ -37,10 +37,10 @@ pub struct Answerable {
 
 /// The kind of a response, where it was asked for.
 fn asked_kind(streams: &Streams, authority: Authority, kind: Option<Kind>) -> Option<Kind>
-    requires { authority.0 < length streams.now }
+    requires { authority.0 < length streams.now.states }
     ensures kind { IfSome result (λ asked. kind ≡ Some asked) }
-    ensures asked { IfSome result (λ asked. (s : Setting) (past : List EntryValue) → streams.now ≡ states_of s past → history.is_asked authority asked past ≡ true) }
-    ensures unasked { result ≡ None → (s : Setting) (past : List EntryValue) (k : KindValue) → streams.now ≡ states_of s past → kind ≡ Some k → history.is_asked authority k past ≡ false }
+    ensures asked { IfSome result (λ asked. (s : Setting) (past : List EntryValue) → streams.now.states ≡ states_of s past → history.is_asked authority asked past ≡ true) }
+    ensures unasked { result ≡ None → (s : Setting) (past : List EntryValue) (k : KindValue) → streams.now.states ≡ states_of s past → kind ≡ Some k → history.is_asked authority k past ≡ false }
 {
     match kind {
         Some(kind) if streams.is_asked(authority, kind) => Some(kind),
@@ -54,14 +54,14 @@ fn judge_response(
     authority: Authority,
     prepared: Prepared,
 ) -> Result<Answerable, Verdict>
-    requires known { authority.0 < length streams.now }
+    requires known { authority.0 < length streams.now.states }
     requires prepared { IsPrepared prepared }
-    ensures answered { IfOk result (λ response. (boot : BootstrapValue) (target : TargetValue) (past : List EntryValue) → streams.now ≡ states_of (setting_of boot target) past → IsAnswerable (setting_of boot target) past (EventValue.Response authority prepared.payload) response) }
+    ensures answered { IfOk result (λ response. (boot : BootstrapValue) (target : TargetValue) (past : List EntryValue) → streams.now.states ≡ states_of (setting_of boot target) past → IsAnswerable (setting_of boot target) past (EventValue.Response authority prepared.payload) response) }
     ensures deliverable { IfOk result AreDeliverable }
     ensures whose { IfOk result (λ response. response.authority ≡ authority) }
     ensures texts { IfOk result (λ response. response.refused ≡ prepared.refused) }
     ensures unanswered { IfErr result (λ verdict. history.answered_kind verdict ≡ None) }
-    ensures verdict { IfErr result (λ verdict. (boot : BootstrapValue) (target : TargetValue) (past : List EntryValue) → streams.now ≡ states_of (setting_of boot target) past → verdict ≡ history.verdict (setting_of boot target) past (EventValue.Response authority prepared.payload) []) }
+    ensures verdict { IfErr result (λ verdict. (boot : BootstrapValue) (target : TargetValue) (past : List EntryValue) → streams.now.states ≡ states_of (setting_of boot target) past → verdict ≡ history.verdict (setting_of boot target) past (EventValue.Response authority prepared.payload) []) }
 {
     if !streams.is_up(authority) {
         return Err(Verdict::Closed);
@@ -96,9 +96,9 @@ fn judge_response(
 
 /// The verdict on a loss.
 fn verdict_on_loss(streams: &Streams, authority: Authority) -> Verdict
-    requires { authority.0 < length streams.now }
+    requires { authority.0 < length streams.now.states }
     ensures unanswered { history.answered_kind result ≡ None }
-    ensures verdict { (s : Setting) (past : List EntryValue) → streams.now ≡ states_of s past → result ≡ history.verdict s past (EventValue.Lost authority) [] }
+    ensures verdict { (s : Setting) (past : List EntryValue) → streams.now.states ≡ states_of s past → result ≡ history.verdict s past (EventValue.Lost authority) [] }
 {
     if streams.is_up(authority) {
         Verdict::Done
@@ -113,14 +113,14 @@ pub fn judge(
     event: &DriverEvent,
     prepared: Option<Prepared>,
 ) -> Result<Answerable, Verdict>
-    requires known { IfSome (authority_in event.now) (λ a. a.0 < length streams.now) }
+    requires known { IfSome (authority_in event.now) (λ a. a.0 < length streams.now.states) }
     requires prepared { IsPreparedFor event.now prepared }
-    ensures answered { IfOk result (λ response. (boot : BootstrapValue) (target : TargetValue) (past : List EntryValue) → streams.now ≡ states_of (setting_of boot target) past → IsAnswerable (setting_of boot target) past event.now response) }
+    ensures answered { IfOk result (λ response. (boot : BootstrapValue) (target : TargetValue) (past : List EntryValue) → streams.now.states ≡ states_of (setting_of boot target) past → IsAnswerable (setting_of boot target) past event.now response) }
     ensures deliverable { IfOk result AreDeliverable }
     ensures whose { IfOk result (λ response. authority_in event.now ≡ Some response.authority) }
     ensures texts { IfOk result (λ response. response.refused ≡ texts_of prepared) }
     ensures unanswered { IfErr result (λ verdict. history.answered_kind verdict ≡ None) }
-    ensures verdict { IfErr result (λ verdict. (boot : BootstrapValue) (target : TargetValue) (past : List EntryValue) → streams.now ≡ states_of (setting_of boot target) past → verdict ≡ history.verdict (setting_of boot target) past event.now []) }
+    ensures verdict { IfErr result (λ verdict. (boot : BootstrapValue) (target : TargetValue) (past : List EntryValue) → streams.now.states ≡ states_of (setting_of boot target) past → verdict ≡ history.verdict (setting_of boot target) past event.now []) }
 {
     match (event, prepared) {
         (DriverEvent::Response { authority, .. }, Some(prepared)) => {
