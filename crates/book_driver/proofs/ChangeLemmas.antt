@@ -1,7 +1,6 @@
 -- Of which watched keys something else may be known after an event.
-use Rattle.std.proofs.Common.{◌≡◌, false, Option, Some, None, Result, List, [], refl, ap, ◌∙◌, is_some, option_map}
-use Rattle.std.specs.Prelude.{IfOk, if◌then◌else◌, IsSome, unwrap_or}
-use Rattle.std.proofs.lemmas.Result.{IfOk-weaker}
+use Rattle.std.proofs.Common.{◌≡◌, false, Option, Some, None, List, refl, ap, ◌∙◌, is_some, option_map}
+use Rattle.std.specs.Prelude.{if◌then◌else◌, IsSome}
 use Rattle.xc_base.specs.declared.names.Key.{Key}
 use Rattle.xds_cache.specs.declared.fate.Known.{Known}
 use Rattle.xds_cache.specs.KeptFates.{Watched as Rows, known_of}
@@ -44,18 +43,3 @@ out_changes old new keys stepped = stepped_changes (out_among keys) old new keys
 -- a response makes nothing else of others than what it touches
 pub told_changes : (a : Answered) (old new : Rows) (touched : List Key) → Stepped old new (told_step (told_as (delivered_in a))) → HasTouched (Some a) old touched → AreChanges old new touched
 told_changes a old new touched stepped has = stepped_changes (told_step (told_as (delivered_in a))) old new touched stepped has
-
--- where nothing changed but what ran out it is the same for any keys
-any_changes : (expired : Option (List Key)) (old new : Rows) (touched : List Key) → AreChanges old new (unwrap_or expired []) → AreChanges old new (unwrap_or expired touched)
-any_changes None old new touched are = record {
-  watched = are.watched;
-  others = λ key lone. are.others key refl;
-}
-any_changes (Some keys) old new touched are = are
-
--- where no response came
-pub untold_changes : {E : Type 0} (result : Result (Option (List Key)) E) (old new : Rows) → IfOk result (λ expired. AreChanges old new (unwrap_or expired [])) →
-    IfOk result (λ expired. (touched : List Key) → HasTouched None old touched → AreChanges old new (unwrap_or expired touched))
-untold_changes result old new is =
-    IfOk-weaker result (λ expired. AreChanges old new (unwrap_or expired [])) (λ expired. (touched : List Key) → HasTouched None old touched → AreChanges old new (unwrap_or expired touched))
-    (λ expired are touched has. any_changes expired old new touched are) is

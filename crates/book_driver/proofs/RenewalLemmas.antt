@@ -80,6 +80,6 @@ told_at s past event new heard prepared is texts = record {
 -- ---- by what is kept
 
 pub heard_at : (s : Setting) (past : List Entry) (w : Watcher) (new : List StreamState) (event : DriverEvent) (heard : Heard) → IsWatcherAt s past w →
-    ((boot : Bootstrap) (target : Target) (past : List Entry) → w.streams ≡ states_of (setting_of boot target) past → IsHeard (setting_of boot target) past event new heard) → IsHeard s past event new heard
+    ((boot : Bootstrap) (target : Target) (past : List Entry) → w.streams.states ≡ states_of (setting_of boot target) past → IsHeard (setting_of boot target) past event new heard) → IsHeard s past event new heard
 heard_at s past w new event heard at hears =
     subst (λ s. IsHeard s past event new heard) (sym at.setting_is) (hears w.boot w.deps.target past (at.streams_are ∙ ap (λ s. states_of s past) at.setting_is))

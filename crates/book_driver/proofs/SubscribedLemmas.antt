@@ -70,6 +70,7 @@ watched_still s past line event reply least w is settled none at = record {
   streams_are = at.streams_are ∙ sym (reports_leave_streams s past line event reply least is settled none);
   fates_are = reports_leave_fates s past line event reply least w.fates is settled none at.fates_are;
   keys_are = at.keys_are;
+  told_are = at.told_are;
   right = at.right;
 }
 
@@ -114,6 +115,7 @@ callers_leave_subscribed s past actor line event reply v at = record {
     streams_are = at.watcher_is.streams_are ∙ sym (callers_change_nothing s actor line event reply past);
     fates_are = callers_leave s past actor line event reply v.watcher.fates at.watcher_is.fates_are;
     keys_are = at.watcher_is.keys_are;
+    told_are = at.watcher_is.told_are;
     right = at.watcher_is.right;
   };
   references_are = at.references_are;

@@ -34,7 +34,7 @@ use Rattle.xds_cache.specs.declared.fate.Known.{Known}
 use Rattle.xds_cache.specs.KeptFates.{Watched as Rows, fate_at, fate_of, known_of, watched}
 use Rattle.config_assembly.specs.Reach.{is_wanted, missing}
 use Rattle.watch_timers.specs.Timers.{started_at}
-use Rattle.driver_step.specs.book_fates.FatesKept.{IsKeptAt, IsMarkedAt, keys_in, turned_by}
+use Rattle.driver_step.specs.book_fates.FatesKept.{IsKeptAt, IsLeftBy, IsMarkedAt, keys_in, turned_by}
 use Rattle.driver_step.proofs.book_fates.KeptLemmas.{has_kept, kept_only, keys_watched}
 use Rattle.driver_step.proofs.book_fates.PageLemmas.{drivers_settle}
 use Rattle.driver_step.specs.DriverSteps.{Assembly, IsAssembly, IsMadeOf, made_or, marks_with, page_by, watched_by}
@@ -46,13 +46,14 @@ use Rattle.book_driver.specs.WatcherKept.{IsHeardBy, IsReachedBy, IsTimely, IsWa
 -- ---- what is watched after an entry
 
 -- once something came
-pub heard_by : (s : Setting) (past : List Entry) (c : Came) (now : Time) (old new : Watcher) → IsWatcherAt s past old → setting_by new ≡ setting_by old → new.deps.reached ≡ old.deps.reached → new.streams ≡ states_with s c past →
+pub heard_by : (s : Setting) (past : List Entry) (c : Came) (now : Time) (old new : Watcher) → IsWatcherAt s past old → setting_by new ≡ setting_by old → new.deps.reached ≡ old.deps.reached → new.streams.states ≡ states_with s c past → new.streams.told ≡ old.streams.told →
     IsMarkedAt s c past (pages s past) now (turned_by c.event c.verdict) new.fates → IsHeardBy s past c now new
-heard_by s past c now old new at same keys streams marked = record {
+heard_by s past c now old new at same keys streams told marked = record {
   setting_is = at.setting_is ∙ sym same;
   streams_are = streams;
   fates_are = marked;
   keys_are = keys ∙ at.keys_are ∙ at.fates_are.keys_are ∙ sym marked.keys_are;
+  told_are = told ∙ at.told_are ∙ at.fates_are.keys_are ∙ sym marked.keys_are;
 }
 
 pub only_at : (s : Setting) (past : List Entry) (w : Watcher) → IsWatcherAt s past w → WatchesOnly w.fates.cache w.fates.reached
@@ -73,18 +74,20 @@ only_by s past c now w by = marked_only s c past (pages s past) now (turned_by c
 -- ---- what is reached
 
 pub reached_by : (s : Setting) (past : List Entry) (c : Came) (now : Time) (reached : List Key) (old new : Watcher) → IsHeardBy s past c now old → new.boot ≡ old.boot → new.streams ≡ old.streams →
-    new.fates.timers ≡ old.fates.timers → new.fates.reached ≡ old.fates.reached → new.deps.target ≡ old.deps.target → new.deps.reached ≡ reached → IsWatching old.fates.cache new.fates.cache reached →
+    new.fates.timers ≡ old.fates.timers → new.fates.reached ≡ old.fates.reached → new.fates.are_timed ≡ old.fates.are_timed → new.deps.target ≡ old.deps.target → new.deps.reached ≡ reached → IsWatching old.fates.cache new.fates.cache reached →
     IsRightBy new.boot.authorities new.fates.cache new.deps → IsReachedBy s past c now reached new
-reached_by s past c now reached old new by boot streams timers before target keys watching right =
+reached_by s past c now reached old new by boot streams timers before waits target keys watching right =
     let same : setting_by new ≡ setting_by old = ap₂ setting_of boot target in record {
       setting_is = by.setting_is ∙ sym same;
-      streams_are = streams ∙ by.streams_are;
+      streams_are = ap (λ w. w.states) streams ∙ by.streams_are;
       marks = old.fates;
       marked = by.fates_are;
       timers_are = timers;
       before_are = before;
+      waits_are = waits;
       watching = watching;
       keys_are = keys;
+      told_are = ap (λ w. w.told) streams ∙ by.told_are ∙ sym before;
       right = right;
     }
 
@@ -147,9 +150,12 @@ pub keys_by : (s : Setting) (c : Came) (past : List Entry) (a : Assembly) (reach
 keys_by s c past a reached is = sym is ∙ sym (keys_watched (marks_with s c past (pages s past)) a.reached)
 
 -- the timers of what is no longer reached ended
-pub left_by : (marks old new : Fates) (reached : List Key) → old.timers ≡ marks.timers → old.reached ≡ marks.reached → StoppedBy old.timers new.timers (unreached_among old.reached reached) → StoppedBy marks.timers new.timers (unreached_among marks.reached reached)
-left_by marks old new reached timers keys stopping =
-    subst (λ ts. StoppedBy ts new.timers (unreached_among marks.reached reached)) timers (subst (λ ks. StoppedBy old.timers new.timers (unreached_among ks reached)) keys stopping)
+pub left_by : (marks old new : Fates) (reached : List Key) → old.timers ≡ marks.timers → old.reached ≡ marks.reached → old.are_timed ≡ marks.are_timed → IsLeftBy old new reached → IsLeftBy marks new reached
+left_by marks old new reached timers keys waits by = record {
+  keys_are = by.keys_are ∙ keys;
+  timed_is = by.timed_is ∙ waits;
+  stopped = subst (λ ts. StoppedBy ts new.timers (unreached_among marks.reached reached)) timers (subst (λ ks. StoppedBy old.timers new.timers (unreached_among ks reached)) keys by.stopped);
+}
 
 pub settles : (s : Setting) (past : List Entry) (line : ℕ) (event : DriverEvent) (reply : DriverReply) (now : Time) (a : Assembly) (reached : List Key) (sent : List Sent) (old : Watcher) (f : Fates) →
     IsReachedBy s past (came event reply) now reached old → IsAssembly s (came event reply) past (pages s past) a → a.reached ≡ reached → now ≡ (present_after past event).now → reply.sent ≡ sent →
@@ -171,9 +177,9 @@ settles s past line event reply now a reached sent old f by assembled_is same ti
 
 pub watched_after : (s : Setting) (past : List Entry) (line : ℕ) (event : DriverEvent) (reply : DriverReply) (now : Time) (a : Assembly) (reached : List Key) (old new : Watcher) →
     IsReachedBy s past (came event reply) now reached old → IsAssembly s (came event reply) past (pages s past) a → a.reached ≡ reached → new.boot ≡ old.boot → new.deps ≡ old.deps → new.fates.cache ≡ old.fates.cache →
-    new.streams ≡ states_of s (driven 0 line event reply ∷ past) → IsKeptAt (driven 0 line event reply ∷ past) (pages s (driven 0 line event reply ∷ past)) new.fates →
+    new.streams.states ≡ states_of s (driven 0 line event reply ∷ past) → new.streams.told ≡ reached → IsKeptAt (driven 0 line event reply ∷ past) (pages s (driven 0 line event reply ∷ past)) new.fates →
     IsWatcherAt s (driven 0 line event reply ∷ past) new
-watched_after s past line event reply now a reached old new by assembled_is same boot deps cache streams kept =
+watched_after s past line event reply now a reached old new by assembled_is same boot deps cache streams told kept =
     let c : Came = came event reply in
     let ps : List Page = pages s past in
     let e : Entry = driven 0 line event reply in
@@ -183,6 +189,7 @@ watched_after s past line event reply now a reached old new by assembled_is same
       streams_are = streams;
       fates_are = kept;
       keys_are = ap (λ d. d.reached) deps ∙ by.keys_are ∙ sym keys;
+      told_are = told ∙ sym keys;
       right = subst (λ b. IsRightBy b.authorities new.fates.cache new.deps) (sym boot) (subst (λ rows. IsRightBy old.boot.authorities rows new.deps) (sym cache) (subst (IsRightBy old.boot.authorities old.fates.cache) (sym deps) by.right));
     }
 
@@ -192,9 +199,10 @@ first_timed : (key : Key) (home : Home) → None ≡ timed_at [] [] key home
 first_timed key (Home.At a) = refl
 first_timed key (Home.Nowhere fault) = refl
 
-pub first_kept : (f : Fates) → f.cache ≡ [] → f.timers ≡ [] → f.reached ≡ [] → IsKeptAt [] [] f
-first_kept f cache timers reached = record {
+pub first_kept : (f : Fates) → f.cache ≡ [] → f.timers ≡ [] → f.reached ≡ [] → f.are_timed ≡ false → IsKeptAt [] [] f
+first_kept f cache timers reached untimed = record {
   knows = λ key. ap (λ rows. known_of rows key) cache;
   keys_are = reached;
   timed = λ key. ap (λ running. started_at running key) timers ∙ first_timed key key.home;
+  waits = λ timed. absurd (cc (timed, untimed));
 }

@@ -79,7 +79,7 @@ DriversHaveHistory = (s : Setting) (past : List Entry) (d : Driver) → IsDriver
 
 -- there is a stream for each authority
 abbrev pub StreamsAreAll : Type 0
-StreamsAreAll = (s : Setting) (past : List Entry) (d : Driver) → IsDriverAt s past d → length d.subscriptions.watcher.streams ≡ s.authorities
+StreamsAreAll = (s : Setting) (past : List Entry) (d : Driver) → IsDriverAt s past d → length d.subscriptions.watcher.streams.states ≡ s.authorities
 
 -- An event that is a report can be answered as the driver's last entry left it: the last entry settled this, and calls refer
 -- to the same clusters as then.

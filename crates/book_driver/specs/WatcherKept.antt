@@ -27,29 +27,34 @@ setting_by w = setting_of w.boot w.deps.target
 -- between entries
 pub record IsWatcherAt (s : Setting) (past : List Entry) (w : Watcher) : Type 0 where
   pub setting_is : s ≡ setting_by w
-  pub streams_are : w.streams ≡ states_of s past
+  pub streams_are : w.streams.states ≡ states_of s past
   pub fates_are : IsKeptAt past (pages s past) w.fates
   pub keys_are : w.deps.reached ≡ w.fates.reached
+  -- the streams were told these keys last
+  pub told_are : w.streams.told ≡ w.fates.reached
   -- and what the last update made is right by what is known
   pub right : IsRightBy w.boot.authorities w.fates.cache w.deps
 
 -- within an entry, once this came, before it is known what is reached
 pub record IsHeardBy (s : Setting) (past : List Entry) (c : Came) (now : Time) (w : Watcher) : Type 0 where
   pub setting_is : s ≡ setting_by w
-  pub streams_are : w.streams ≡ states_with s c past
+  pub streams_are : w.streams.states ≡ states_with s c past
   pub fates_are : IsMarkedAt s c past (pages s past) now (turned_by c.event c.verdict) w.fates
   pub keys_are : w.deps.reached ≡ w.fates.reached
+  pub told_are : w.streams.told ≡ w.fates.reached
 
 -- and once it is: these keys are watched, and nothing is asked yet
 pub record IsReachedBy (s : Setting) (past : List Entry) (c : Came) (now : Time) (reached : List Key) (w : Watcher) : Type 0 where
   pub setting_is : s ≡ setting_by w
-  pub streams_are : w.streams ≡ states_with s c past
+  pub streams_are : w.streams.states ≡ states_with s c past
   pub marks : Fates
   pub marked : IsMarkedAt s c past (pages s past) now (turned_by c.event c.verdict) marks
   pub timers_are : w.fates.timers ≡ marks.timers
   pub before_are : w.fates.reached ≡ marks.reached
+  pub waits_are : w.fates.are_timed ≡ marks.are_timed
   pub watching : IsWatching marks.cache w.fates.cache reached
   pub keys_are : w.deps.reached ≡ reached
+  pub told_are : w.streams.told ≡ w.fates.reached
   pub right : IsRightBy w.boot.authorities w.fates.cache w.deps
 
 -- it is what is kept after some history

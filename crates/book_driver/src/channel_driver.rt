@@ -78,7 +78,7 @@ impl Driver {
         latest: Option<u32>,
         steps: &mut Steps<L>,
     ) -> Result<Stepped, Memory>
-        requires known { IfSome (authority_in event.now) (λ a. a.0 < length self.old.subscriptions.watcher.streams) }
+        requires known { IfSome (authority_in event.now) (λ a. a.0 < length self.old.subscriptions.watcher.streams.states) }
         requires prepared { IsPreparedFor event.now prepared }
         requires few { IfSome latest (λ n. n + 1 < 2 ^ 32) }
         requires at { HasDriven self.old }

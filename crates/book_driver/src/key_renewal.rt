@@ -12,12 +12,13 @@ ghost use Rattle.book_hearing.specs.HeardEvents.{IsPreparedFor};
 ghost use Rattle.book_driver.specs.WatcherKept.{HasWatched, IsHeardBy, IsTimely, IsWatcherAt};
 ghost use Rattle.book_driver.specs.Renewals.{IsRenewalAt, IsToldBy};
 
-use crate::marking::mark;
+use crate::marking::{Brought, mark};
 use crate::watcher::Watcher;
 use ads_stream::Verdict;
 use book_hearing::hear;
 use book_trees::Prepared;
 use call_journal::{DriverEvent, Sent};
+use driver_step::Reached;
 use std::sync::ledger::Ledger;
 use xc_base::{Key, List, Memory, Shared, Steps, Text, Time};
 use xds_config::Config;
@@ -51,16 +52,6 @@ struct Intake {
     changed: List<Key>,
 }
 
-/// The keys that were waited for in vain, where time passed, else those that a response touched.
-fn changed_by(expired: Option<List<Key>>, touched: List<Key>) -> List<Key>
-    ensures { result ≡ unwrap_or expired touched }
-{
-    match expired {
-        Some(expired) => expired,
-        None => touched,
-    }
-}
-
 impl Watcher {
     /// Hears an event, and takes in what it brings for the watched keys. It fails for want of memory alone, and then nothing
     /// is said of what is kept.
@@ -71,7 +62,7 @@ impl Watcher {
         now: Time,
         steps: &mut Steps<L>,
     ) -> Result<Intake, Memory>
-        requires known { IfSome (authority_in event.now) (λ a. a.0 < length self.old.streams) }
+        requires known { IfSome (authority_in event.now) (λ a. a.0 < length self.old.streams.states) }
         requires prepared { IsPreparedFor event.now prepared }
         requires only { WatchesOnly self.old.fates.cache self.old.fates.reached }
         ensures heard { IfOk result (λ heard. (s : Setting) (past : List EntryValue) → IsWatcherAt s past self.old → IsHeardBy s past (came_with event.now heard.verdict heard.refused) now self.new) }
@@ -81,12 +72,16 @@ impl Watcher {
     {
         let heard = hear(self.alloc, &mut self.streams, event, prepared)?;
         let touched = self.fates.touched_keys(self.alloc, &heard.answered)?;
-        let brought = (heard.verdict, heard.answered);
-        let expired = mark(&mut self.fates, event, brought, now, steps)?;
+        let brought = Brought {
+            verdict: heard.verdict,
+            answered: heard.answered,
+            touched,
+        };
+        let changed = mark(&mut self.fates, event, brought, now, steps)?;
         Ok(Intake {
             verdict: heard.verdict,
             refused: heard.refused,
-            changed: changed_by(expired, touched),
+            changed,
         })
     }
 
@@ -100,7 +95,7 @@ impl Watcher {
         references: &List<Text>,
         steps: &mut Steps<L>,
     ) -> Result<Renewal, Memory>
-        requires known { IfSome (authority_in event.now) (λ a. a.0 < length self.old.streams) }
+        requires known { IfSome (authority_in event.now) (λ a. a.0 < length self.old.streams.states) }
         requires prepared { IsPreparedFor event.now prepared }
         requires at { HasWatched self.old }
         ensures step { IfOk result (λ r. (s : Setting) (past : List EntryValue) → IsWatcherAt s past self.old → IsTimely s past event.now now references.now → IsRenewalAt s past event.now prepared r self.new) }
@@ -111,7 +106,12 @@ impl Watcher {
     {
         let heard = self.take_in(event, prepared, now, steps)?;
         let outcome = self.assemble(&heard.changed, references, steps)?;
-        let sent = self.ask(outcome.reached, &outcome.missing, now, steps)?;
+        let reached = Reached {
+            keys: outcome.reached,
+            stays: outcome.stays,
+            awaits: outcome.missing.is_some(),
+        };
+        let sent = self.ask(reached, now, steps)?;
         Ok(Renewal {
             verdict: heard.verdict,
             refused: heard.refused,

@@ -1,6 +1,5 @@
 //! What an event brings for the watched keys.
 ghost use Rattle.std.specs.Prelude.{◌≡◌, List, [], None, Some, IfOk, OnOk, IfSome, option_map, unwrap_or, if◌then◌else◌};
-ghost use Rattle.xc_base.specs.declared.names.Key.{Key as KeyValue};
 ghost use Rattle.call_journal.specs.declared.entry.Entry.{Entry as EntryValue};
 ghost use Rattle.book_trees.specs.xds_history.Setting.{Setting};
 ghost use Rattle.book_trees.specs.xds_history.Responses.{Came, answered};
@@ -79,27 +78,55 @@ fn pass_or_turn<L: Ledger>(
     Ok(None)
 }
 
+/// What an event brings for the watched keys.
+#[derive(Drop)]
+pub struct Brought {
+    /// The verdict on it.
+    pub verdict: Verdict,
+    /// The response that it is, where that is answered.
+    pub answered: Option<Answered>,
+    /// The watched keys that the response can change.
+    pub touched: List<Key>,
+}
+
+/// The keys that were waited for in vain, where time passed, else those that a response touched.
+fn changed_by(expired: Option<List<Key>>, touched: List<Key>) -> List<Key>
+    ensures { result ≡ unwrap_or expired touched }
+{
+    match expired {
+        Some(expired) => expired,
+        None => touched,
+    }
+}
+
 /// Takes in what an event brings for the watched keys: an answered response, or time, or that a stream turns (Envoy's xDS
-/// transport, gRFC A47). It answers the keys that were waited for in vain, where time passes, and fails for want of memory
-/// alone.
+/// transport, gRFC A47). It answers the keys of which something else may be known by it, and fails for want of memory alone.
 pub fn mark<L: Ledger>(
     fates: &mut Fates,
     event: &DriverEvent,
-    heard: (Verdict, Option<Answered>),
+    brought: Brought,
     now: Time,
     steps: &mut Steps<L>,
-) -> Result<Option<List<Key>>, Memory>
-    requires ready { IfSome heard.1 IsReady }
+) -> Result<List<Key>, Memory>
+    requires ready { IfSome brought.answered IsReady }
     requires only { WatchesOnly fates.old.cache fates.old.reached }
-    ensures changes { IfOk result (λ expired. (touched : List KeyValue) → HasTouched heard.1 fates.old.cache touched → AreChanges fates.old.cache fates.new.cache (unwrap_or expired touched)) }
-    ensures marked { OnOk result ((s : Setting) (c : Came) (past : List EntryValue) (ps : List PageValue) → c.event ≡ event.now → c.verdict ≡ heard.0 → option_map delivered_in heard.1 ≡ option_map delivered_by (answered s c) → IsKeptAt past ps fates.old → IsMarkedAt s c past ps now (turned_by event.now heard.0) fates.new) }
+    requires touched { HasTouched brought.answered fates.old.cache brought.touched }
+    ensures changes { IfOk result (AreChanges fates.old.cache fates.new.cache) }
+    ensures marked { OnOk result ((s : Setting) (c : Came) (past : List EntryValue) (ps : List PageValue) → c.event ≡ event.now → c.verdict ≡ brought.verdict → option_map delivered_in brought.answered ≡ option_map delivered_by (answered s c) → IsKeptAt past ps fates.old → IsMarkedAt s c past ps now (turned_by event.now brought.verdict) fates.new) }
 {
-    let (verdict, answered) = heard;
+    let Brought {
+        verdict,
+        answered,
+        touched,
+    } = brought;
     match answered {
         Some(response) => {
-            fates.take(response, steps)?;
-            Ok(None)
+            fates.take(response, touched.as_slice(), steps)?;
+            Ok(touched)
         }
-        None => pass_or_turn(fates, event, verdict, now, steps),
+        None => {
+            let expired = pass_or_turn(fates, event, verdict, now, steps)?;
+            Ok(changed_by(expired, touched))
+        }
     }
 }

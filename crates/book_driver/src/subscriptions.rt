@@ -142,7 +142,7 @@ impl Subscriptions {
         references: List<Text>,
         steps: &mut Steps<L>,
     ) -> Result<Renewal, Memory>
-        requires known { IfSome (authority_in event.now) (λ a. a.0 < length self.old.watcher.streams) }
+        requires known { IfSome (authority_in event.now) (λ a. a.0 < length self.old.watcher.streams.states) }
         requires prepared { IsPreparedFor event.now prepared }
         requires at { HasWatched self.old.watcher }
         ensures step { IfOk result (λ r. (s : Setting) (past : List EntryValue) → IsWatcherAt s past self.old.watcher → IsTimely s past event.now now references → IsAnsweredAt s past event.now prepared r self.new) }
@@ -183,7 +183,7 @@ impl Subscriptions {
         references: Option<List<Text>>,
         steps: &mut Steps<L>,
     ) -> Result<Renewal, Memory>
-        requires known { IfSome (authority_in event.now) (λ a. a.0 < length self.old.watcher.streams) }
+        requires known { IfSome (authority_in event.now) (λ a. a.0 < length self.old.watcher.streams.states) }
         requires prepared { IsPreparedFor event.now prepared }
         requires at { HasSubscribed self.old }
         ensures step { IfOk result (λ r. (s : Setting) (past : List EntryValue) → AreSubscribedAt s past self.old → IsTimely s past event.now now (names_with references self.old.last) → IsAnsweredAt s past event.now prepared r self.new) }

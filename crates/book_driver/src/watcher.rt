@@ -1,5 +1,5 @@
 //! The streams and the keys that are watched.
-ghost use Rattle.std.specs.Prelude.{◌≡◌, ◌≤◌, ◌↔◌, [], ◌∷◌, ℕ, List, length, IfOk, IfSome, IsNone, IsSome, None, OnOk};
+ghost use Rattle.std.specs.Prelude.{◌≡◌, ◌≤◌, ◌↔◌, [], ◌∷◌, ℕ, List, true, false, length, IfOk, IfSome, IsNone, IsSome, None, OnOk};
 ghost use Rattle.std.specs.Option.{option_or};
 ghost use Rattle.xc_base.specs.declared.names.Kind.TheVariants.{Listener as ListenerKind};
 ghost use Rattle.xc_base.specs.declared.names.Time.{Time as TimeValue};
@@ -21,7 +21,7 @@ ghost use Rattle.book_driver.specs.WatcherKept.{IsHeardBy, IsReachedBy, IsTimely
 use call_journal::Sent;
 use config_assembly::SharedKeys;
 use dep_manager::{Deps, Outcome};
-use driver_step::{Fates, Streams};
+use driver_step::{Fates, Reached, Streams};
 use std::alloc::Global;
 use std::sync::ledger::Ledger;
 use watch_timers::Timers;
@@ -64,6 +64,7 @@ impl Watcher {
                 cache: Cache::new(alloc),
                 timers: Timers::new(alloc),
                 reached: SharedKeys::new(),
+                are_timed: false,
             },
         })
     }
@@ -83,6 +84,7 @@ impl Watcher {
         ensures reached { IfOk result (λ o. (s : Setting) (past : List EntryValue) (c : Came) (now : TimeValue) → IsHeardBy s past c now self.old → IsReachedBy s past c now o.reached self.new) }
         ensures assembly { IfOk result (λ o. (s : Setting) (past : List EntryValue) (c : Came) (now : TimeValue) → IsHeardBy s past c now self.old → IsTimely s past c.event now references.now → IsAssembly s c past (pages s past) (assembly_with s past o.reached o.missing o.config)) }
         ensures known { IfOk result (λ o. IsNone o.missing → NoneWanted self.new.fates.cache o.reached) }
+        ensures stays { IfOk result (λ o. o.stays ≡ true → o.reached ≡ self.new.fates.reached) }
         ensures whole { IfOk result (λ o. IsSome o.config ↔ IsNone o.missing) }
         ensures lawful { IfOk result (λ o. IfSome o.config IsLawfulConfig) }
         ensures others { IfOk result (λ o. IfSome o.config (λ config. StandAsShown o.others.items self.old.deps.shown config)) }
@@ -99,24 +101,25 @@ impl Watcher {
         Ok(outcome)
     }
 
-    /// Asks for what is reached, of which this is the least key that is awaited: the requests that are due, once something
-    /// came. Timers end and start by them. It fails for want of memory alone, and then nothing is said of what is kept.
+    /// Asks for what is reached: the requests that are due, once something came. Timers end and start by them. Where the same
+    /// keys stay reached, and each that is awaited has a timer, no key is looked at. It fails for want of memory alone, and then
+    /// nothing is said of what is kept.
     pub fn ask<L: Ledger>(
         &mut self,
-        reached: SharedKeys,
-        missing: &Option<Key>,
+        reached: Reached,
         now: Time,
         steps: &mut Steps<L>,
     ) -> Result<List<Sent>, Memory>
-        requires { IsNone missing.now → NoneWanted self.old.fates.cache reached }
+        requires awaits { reached.awaits ≡ false → NoneWanted self.old.fates.cache reached.keys }
+        requires stays { reached.stays ≡ true → reached.keys ≡ self.old.fates.reached }
+        requires told { self.old.streams.told ≡ self.old.fates.reached }
         ensures shown { OnOk result (self.new.deps.shown ≡ self.old.deps.shown) }
-        ensures sent { IfOk result (λ sent. (s : Setting) (past : List EntryValue) (c : Came) (a : Assembly) → IsReachedBy s past c now reached self.old → a.reached ≡ reached → sent ≡ requests s c past (watched_by s c past (pages s past) a)) }
-        ensures kept { IfOk result (λ sent. (s : Setting) (past : List EntryValue) (line : ℕ) (event : EventValue) (reply : DriverReply) (a : Assembly) → IsReachedBy s past (came event reply) now reached self.old → IsAssembly s (came event reply) past (pages s past) a → a.reached ≡ reached → now ≡ (present_after past event).now → reply.sent ≡ sent → IsWatcherAt s (driven 0 line event reply ∷ past) self.new) }
+        ensures sent { IfOk result (λ sent. (s : Setting) (past : List EntryValue) (c : Came) (a : Assembly) → IsReachedBy s past c now reached.keys self.old → a.reached ≡ reached.keys → sent ≡ requests s c past (watched_by s c past (pages s past) a)) }
+        ensures kept { IfOk result (λ sent. (s : Setting) (past : List EntryValue) (line : ℕ) (event : EventValue) (reply : DriverReply) (a : Assembly) → IsReachedBy s past (came event reply) now reached.keys self.old → IsAssembly s (came event reply) past (pages s past) a → a.reached ≡ reached.keys → now ≡ (present_after past event).now → reply.sent ≡ sent → IsWatcherAt s (driven 0 line event reply ∷ past) self.new) }
     {
-        let sent = self.streams.names(reached.as_slice())?;
-        self.fates.leave(self.alloc, reached.as_slice())?;
-        self.fates
-            .settle(reached, missing.is_some(), sent.as_slice(), now, steps)?;
+        let sent = self.streams.names(reached.keys.as_slice(), reached.stays)?;
+        self.fates.leave(self.alloc, &reached)?;
+        self.fates.settle(reached, sent.as_slice(), now, steps)?;
         Ok(sent)
     }
 }

@@ -1,7 +1,7 @@
-use Rattle.std.proofs.Common.{refl}
+use Rattle.std.proofs.Common.{refl, sym, ◌∙◌}
 use Rattle.driver_step.specs.book_streams.StreamsLaws.{came_with}
 use Rattle.book_driver.specs.WatcherKept.{assembly_with, setting_by}
-use Rattle.book_driver.proofs.WatcherLemmas.{only_at, only_by}
+use Rattle.book_driver.proofs.WatcherLemmas.{none_there, only_at, only_by}
 use Rattle.book_driver.proofs.watcher.Watcher.renew.Goals as goal
 
 pub take_in-requires-clause-only : goal.take_in-requires-clause-only
@@ -17,6 +17,14 @@ assemble-requires-clause-same g c = (c.in_ok-heard.ensures.heard (setting_by c.a
 
 pub assemble-requires-clause-changed : goal.assemble-requires-clause-changed
 assemble-requires-clause-changed g c = c.in_ok-heard.ensures.changed c.requires.at.at.right
+
+pub ask-requires : goal.ask-requires
+ask-requires g c = record {
+  awaits = λ none. c.in_ok-outcome.ensures.known (none_there c.in_ok-outcome.outcome.missing (sym c.is_some.ensures ∙ none));
+  stays = c.in_ok-outcome.ensures.stays;
+  told = (c.in_ok-outcome.ensures.reached (setting_by c.args.self.now) c.requires.at.past (came_with c.args.event.now c.in_ok-heard.heard.verdict c.in_ok-heard.heard.refused) c.args.now
+      (c.in_ok-heard.ensures.heard (setting_by c.args.self.now) c.requires.at.past c.requires.at.at)).told_are;
+}
 
 pub returns-clause-step : goal.returns-clause-step
 returns-clause-step g c s past at timely =
