@@ -15,7 +15,7 @@ use Rattle.ads_stream.specs.declared.verdict.Verdict.TheVariants.{Done, Closed, 
 use Rattle.ads_stream.specs.StreamSteps as step
 use Rattle.ads_stream.specs.StreamSteps.{Text}
 
--- a call that had memory, with what it answered
+-- a call that had memory, with what it answered; an `answer` is a `names` here, since it makes the same step
 pub data Event : Type 0 where
   opened : Event
   lost : Bool → Event

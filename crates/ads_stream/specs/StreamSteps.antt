@@ -91,6 +91,12 @@ with_kind state Route s = record state { route = s }
 with_kind state Cluster s = record state { cluster = s }
 with_kind state Endpoint s = record state { endpoint = s }
 
+abbrev pub names_of : Names → Kind → List Text
+names_of names Listener = names.listener
+names_of names Route = names.route
+names_of names Cluster = names.cluster
+names_of names Endpoint = names.endpoint
+
 abbrev pub unopened : Node → StreamState
 unopened node = record { node = node; is_up = false; is_greeted = false; listener = fresh; route = fresh; cluster = fresh; endpoint = fresh }
 
@@ -153,3 +159,7 @@ names_sent state names = state_after_requests state names (state.is_greeted || n
 
 abbrev pub names_told : StreamState → Names → StreamState
 names_told state names = if state.is_up then names_sent state names else state
+
+-- on a stream that is up no request of another kind is due by these names
+abbrev pub IsSettledBut : StreamState → Names → Kind → Type 0
+IsSettledBut state names kind = state.is_up ≡ true → (other : Kind) → (other ≡ kind → ⊥) → is_due (of_kind state other) (names_of names other) ≡ false

@@ -1,7 +1,7 @@
 //! The stream of one authority.
-ghost use Rattle.std.specs.Prelude.{◌≡◌, IfOk, OnOk, OnErr, is_some};
+ghost use Rattle.std.specs.Prelude.{◌≡◌, ◌==◌, ◌||◌, length, not, IfOk, OnOk, OnErr, is_some};
 ghost use Rattle.std.specs.Option.{option_copied};
-ghost use Rattle.ads_stream.specs.StreamSteps.{unopened, restarted, opened, lost, of_kind, verdict_of, response_taken, greeting, with_request, state_after_requests, requests_due, names_told};
+ghost use Rattle.ads_stream.specs.StreamSteps.{unopened, restarted, opened, lost, of_kind, with_kind, names_of, verdict_of, response_taken, greeting, with_request, state_after_requests, requests_due, names_told, IsSettledBut};
 
 use crate::request_names::Names;
 use crate::subscription::Subscription;
@@ -43,6 +43,18 @@ impl StreamState {
         }
     }
 
+    /// Keeps what the stream knows of one kind from now on.
+    fn keep(&mut self, kind: Kind, subscription: Subscription)
+        ensures { self.new ≡ with_kind self.old kind subscription }
+    {
+        match kind {
+            Kind::Listener => self.listener = subscription,
+            Kind::Route => self.route = subscription,
+            Kind::Cluster => self.cluster = subscription,
+            Kind::Endpoint => self.endpoint = subscription,
+        }
+    }
+
     /// Where the stream stands once the requests for these names have been sent.
     fn state_after_requests(
         &self,
@@ -63,8 +75,8 @@ impl StreamState {
     }
 }
 
-/// One authority's stream, which contracts see as where it stands. `names` is called after each other call, and gives
-/// the requests that are due by then.
+/// One authority's stream, which contracts see as where it stands. `names` or `answer` is called after each other call, and
+/// gives the requests that are due by then.
 #[derive(Drop)]
 pub struct Stream {
     alloc: Global,
@@ -195,6 +207,13 @@ impl Stream {
         Ok(())
     }
 
+    /// Whether a request was sent on the stream, once these have been.
+    fn is_greeted_by(&self, requests: &List<Request>) -> bool
+        ensures { result ≡ (self.now.is_greeted || not (length requests.now == 0)) }
+    {
+        self.state.is_greeted || !requests.as_slice().is_empty()
+    }
+
     /// The requests that are due, by kind.
     fn requests(&self, now_watched: &Names) -> Result<List<Request>, Memory>
         ensures { IfOk result (λ requests. requests ≡ requests_due self.now now_watched.now) }
@@ -223,8 +242,30 @@ impl Stream {
         if !self.state.is_up {
             return Ok(requests);
         }
-        let is_greeted = self.state.is_greeted || !requests.as_slice().is_empty();
+        let is_greeted = self.is_greeted_by(&requests);
         self.state = self.state.state_after_requests(now_watched, is_greeted)?;
+        Ok(requests)
+    }
+
+    /// The requests that are due, where none but one of this kind can be: the names of all other kinds are as they were in
+    /// the last requests, and no response of theirs is to be answered. It gives and leaves what `names` does, and looks at this kind
+    /// alone. Where a response is to be answered no names are compared. Without memory nothing changes, and nothing counts
+    /// as sent.
+    pub fn answer(&mut self, kind: Kind, now_watched: &Names) -> Result<List<Request>, Memory>
+        requires settled { IsSettledBut self.old now_watched.now kind }
+        ensures due { IfOk result (λ requests. requests ≡ requests_due self.old now_watched.now) }
+        ensures ok { OnOk result (self.new ≡ names_told self.old now_watched.now) }
+        ensures err { OnErr result (self.new ≡ self.old) }
+    {
+        let mut requests = List::new(self.alloc);
+        if !self.state.is_up {
+            return Ok(requests);
+        }
+        let names = now_watched.of(kind);
+        self.add_request(kind, names, &mut requests)?;
+        let subscription = self.state.of(kind).after_request(names)?;
+        self.state.is_greeted = self.is_greeted_by(&requests);
+        self.state.keep(kind, subscription);
         Ok(requests)
     }
 }

@@ -2,6 +2,7 @@
 ghost use Rattle.std.specs.Prelude.{◌≡◌, length, IfOk};
 ghost use Rattle.xds_config.specs.Configs.{AreLawfulLeaves, IsLawfulConfig};
 
+use block_list::in_blocks;
 use std::alloc::Global;
 use std::test::Fail;
 use xc_base::{List, Reason, Shared, Text};
@@ -35,7 +36,7 @@ pub fn config(alloc: Global) -> Result<Shared<Config>, Fail>
     clusters.push(Shared::new(alloc, entry)?)?;
     let config = Config {
         front: Err(Reason::Absent),
-        clusters: Clusters::from_list(clusters),
+        clusters: Clusters::from_blocks(in_blocks(alloc, clusters)?),
     };
     Ok(Shared::new(alloc, config)?)
 }

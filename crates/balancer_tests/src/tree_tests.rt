@@ -1,6 +1,7 @@
 //! Trees of one cluster.
 use crate::tree_configs::config;
-use cluster_tree::{Trees, UpdatedViews};
+use cluster_tree::{NextConfig, Trees, UpdatedViews};
+use place_marks::Marks;
 use std::collections::BTreeMap;
 use std::test::Fail;
 use weighted_lb::PickBody;
@@ -23,12 +24,23 @@ fn trees_take_a_configuration_and_reports(rt: HostRuntime) -> Result<(), Fail> {
     let mut reports = BTreeMap::new(rt.alloc());
     reports.insert(address(rt.alloc(), "10.0.0.1:80")?, State::Ready)?;
     let mut trees = Trees::new(rt.alloc());
-    let first = trees.update(&config, &reports, Time(0), &[], &[true])?;
+    let others = Marks::all(rt.alloc(), 1)?;
+    let other = NextConfig {
+        config: &config,
+        others: &others,
+        is_renamed: true,
+    };
+    let first = trees.update(other, &reports, Time(0), &[])?;
     assert!(rt; is_absent(&first.seen) && matches!(first.seen.changed.places(), [0]));
     assert!(rt; matches!(first.anew.places(), [0]));
     let second = trees.update_states(&reports, Time(1), &[])?;
     assert!(rt; is_absent(&second) && second.changed.are_none());
-    let third = trees.update(&config, &reports, Time(2), &[], &[true])?;
+    let same = NextConfig {
+        config: &config,
+        others: &others,
+        is_renamed: false,
+    };
+    let third = trees.update(same, &reports, Time(2), &[])?;
     assert!(rt; is_absent(&third.seen) && third.anew.are_none());
     assert!(rt; trees.localities(0)?.is_empty());
     Ok(())

@@ -79,3 +79,16 @@ blocks_more {T} blocks block are whole some most =
 
 pub same_blocks : {T : Type 0} (blocks others : List (List T)) → others ≡ blocks → AreBlocks blocks → AreBlocks others
 same_blocks {T} blocks others is are = subst (λ (bs : List (List T)). AreBlocks bs) (sym is) are
+
+-- ---- how many members there are
+
+pub last_is_behind : {T : Type 0} (blocks whole : List (List T)) (last : List T) → blocks ≡ whole ++ last ∷ [] → AreBlocks blocks → 32 * length whole + length last ≡ length (members_of blocks)
+last_is_behind {T} blocks whole last is are =
+    let count : length blocks ≡ length whole + 1 = ap (λ (bs : List (List T)). length bs) is ∙ length-append whole (last ∷ []) in
+    let own : last ≡ take 32 (drop (32 * length whole) (members_of blocks)) =
+    sym (ap (λ (bs : List (List T)). get_or bs (length whole) []) is ∙ get_or-append_seam whole last [] []) ∙ are.each (length whole) [] (omega (arith, count)) in
+    let left : length (drop (32 * length whole) (members_of blocks)) ≡ length (members_of blocks) - 32 * length whole = length-drop (32 * length whole) (members_of blocks) in
+    let long : length last ≡ length (members_of blocks) - 32 * length whole =
+    ap (λ (ms : List T). length ms) own
+    ∙ (ap (λ (ms : List T). length ms) (take_all 32 (drop (32 * length whole) (members_of blocks)) (omega (arith, left, are.most, count))) ∙ left) in
+    omega (arith, long, are.least, count)

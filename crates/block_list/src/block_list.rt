@@ -1,5 +1,5 @@
 //! A list in blocks.
-ghost use Rattle.std.specs.Prelude.{◌≡◌, ◌<◌, ◌≤◌, ◌*◌, ◌%◌, ◌++◌, [], length, take, drop, slice_get, option_map, Some, None, IfOk, IfSome, OnOk};
+ghost use Rattle.std.specs.Prelude.{◌≡◌, ◌<◌, ◌≤◌, ◌*◌, ◌%◌, ◌^◌, ◌++◌, [], length, take, drop, slice_get, option_map, Some, None, IfOk, IfSome, OnOk};
 
 use std::alloc::Global;
 use std::marker::Model;
@@ -40,6 +40,17 @@ impl<T: Drop> BlockList<T> {
     {
         BlockList {
             blocks: List::new(alloc),
+        }
+    }
+
+    /// How many members it has.
+    pub fn len(&self) -> usize
+        requires { length self.now < 2 ^ 63 }
+        ensures { result ≡ length self.now }
+    {
+        match self.blocks.as_slice().split_last() {
+            Some((last, whole)) => BLOCK_SIZE * whole.len() + last.get().len(),
+            None => 0,
         }
     }
 

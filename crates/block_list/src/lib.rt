@@ -2,5 +2,7 @@
 #![tactic(auto)]
 
 pub mod block_list;
+pub mod list_filling;
 
 pub use block_list::{BLOCK_SIZE, BlockList};
+pub use list_filling::in_blocks;

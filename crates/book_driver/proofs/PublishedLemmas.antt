@@ -1,16 +1,13 @@
 -- What is seen of trees after an entry, and what is published of it.
-use Rattle.std.proofs.Common.{◌≡◌, ◌≢◌, ℕ, ◌+◌, ◌<◌, Bool, true, false, List, [], length, map, get_or, Option, Some, None, refl, sym, ap, ◌∙◌, subst, arith, eq-eqb, eqb-true, is_some, option_map, option_and_then}
-use Rattle.std.specs.Prelude.{IfSome, ◌==◌}
+use Rattle.std.proofs.Common.{◌≡◌, ℕ, true, false, List, Option, Some, None, refl, sym, ap, ◌∙◌, subst, is_some, option_map, option_and_then}
+use Rattle.std.specs.Prelude.{IfSome}
 use Rattle.std.specs.Option.{option_or}
-use Rattle.std.proofs.lemmas.List.{ext_get_or, get_or-map, length-map}
-use Rattle.xds_config.specs.declared.config.ClusterEntry.{ClusterEntry}
 use Rattle.xds_config.specs.declared.config.Config.{Config}
 use Rattle.xds_config.specs.Configs.{IsLawfulConfig}
 use Rattle.cluster_tree.specs.declared.snapshot.Snapshot.{Snapshot}
 use Rattle.cluster_tree.specs.ViewChanges.{IsChangeMark}
 use Rattle.call_journal.specs.declared.event.DriverEvent.{DriverEvent}
 use Rattle.call_journal.specs.declared.entry.Entry.{Entry}
-use Rattle.config_assembly.specs.Orders.{Name}
 use Rattle.book_trees.specs.xds_history.Setting.{Setting}
 use Rattle.book_trees.specs.xds_history.Page.{latest}
 use Rattle.book_trees.specs.xds_history.Pages.{pages, present_after, snapshot_of}
@@ -45,35 +42,6 @@ some_of (Some config) is = (config, refl)
 pub seen_where : (s : Setting) (event : DriverEvent) (past : List Entry) (o : Option Config) (seen : Seen) → is_some o ≡ true → ((config : Config) → o ≡ Some config → IsSeen s event past config seen) → AreSeen s event past o (Some seen)
 seen_where s event past None seen is sees = absurd (cc is)
 seen_where s event past (Some config) seen is sees = sees config refl
-
--- ---- the names of clusters
-
-abbrev pub names_of : List ClusterEntry → List Name
-names_of entries = map (λ entry. entry.name) entries
-
--- at each place below this one stands the same name
-abbrev pub AreNamedTo : ℕ → List ClusterEntry → List ClusterEntry → Type 0
-AreNamedTo i entries others = (k : ℕ) → k < i → get_or (names_of entries) k [] ≡ get_or (names_of others) k []
-
-named_at : (entries : List ClusterEntry) (entry : ClusterEntry) (i : ℕ) → i < length entries → entry ≡ get_or entries i entry → get_or (names_of entries) i [] ≡ entry.name
-named_at entries entry i less is = get_or-map (λ (e : ClusterEntry). e.name) entries i entry [] less ∙ ap (λ e. e.name) (sym is)
-
-pub named_more : (i : ℕ) (entries others : List ClusterEntry) (entry other : ClusterEntry) → i < length entries → i < length others → entry ≡ get_or entries i entry → other ≡ get_or others i other → entry.name ≡ other.name →
-    AreNamedTo i entries others → AreNamedTo (i + 1) entries others
-named_more i entries others entry other less also is other_is same before k lt = by (k == i) refl
-  where
-    by : (b : Bool) → (k == i) ≡ b → get_or (names_of entries) k [] ≡ get_or (names_of others) k []
-    by true here =
-        let e : k ≡ i = eqb-true k i here in
-        subst (λ n. get_or (names_of entries) n [] ≡ get_or (names_of others) n []) (sym e) (named_at entries entry i less is ∙ same ∙ sym (named_at others other i also other_is))
-    by false there =
-        let apart : k ≢ i = λ e. let yes = eq-eqb k i e in cc in
-        let below : k < i = omega arith in before k below
-
-pub named_all : (entries others : List ClusterEntry) → length entries ≡ length others → AreNamedTo (length entries) entries others → names_of entries ≡ names_of others
-named_all entries others many named =
-    let long : length (names_of entries) ≡ length entries = length-map entries (λ (e : ClusterEntry). e.name) in
-    ext_get_or [] (names_of entries) (names_of others) (long ∙ many ∙ sym (length-map others (λ (e : ClusterEntry). e.name))) (λ k lt. named k (subst (λ n. k < n) long lt))
 
 -- ---- numbers
 

@@ -15,8 +15,6 @@ use Rattle.book_trees.specs.xds_history.declared.page.Page.{Page}
 use Rattle.book_trees.specs.xds_history.Page.{watched_now}
 use Rattle.book_trees.specs.xds_history.References.{references}
 use Rattle.book_trees.specs.xds_history.Pages.{called, driven, pages}
-use Rattle.std.specs.declared.alloc.Global.{Global}
-use Rattle.std.specs.declared.vec.Vec.{Vec}
 use Rattle.book_trees.specs.xds_history.HistoryLaws.{is_report}
 use Rattle.driver_step.specs.book_fates.FatesKept.{keys_in}
 use Rattle.driver_step.specs.SettledKeys.{ChangesNoKey, IsSettledAt, as_settled}
@@ -74,7 +72,7 @@ watched_still s past line event reply least w is settled none at = record {
   right = at.right;
 }
 
-still : (s : Setting) (past : List Entry) (event : DriverEvent) (prepared : Option Prepared) (v : Subscriptions) (kept : Settled) (marks : Vec Bool Global) → AreSubscribedAt s past v → IsTrue (is_report event) → IsSettledAt s past (pages s past) (references (pages s past)) kept.missing →
+still : (s : Setting) (past : List Entry) (event : DriverEvent) (prepared : Option Prepared) (v : Subscriptions) (kept : Settled) (marks : List Bool) → AreSubscribedAt s past v → IsTrue (is_report event) → IsSettledAt s past (pages s past) (references (pages s past)) kept.missing →
     kept.references ≡ references (pages s past) → IsAnsweredAt s past event prepared (quiet_answer kept.missing marks) (record { watcher = v.watcher; last = Some kept })
 still s past event prepared v kept marks at is settled same =
     let ps : List Page = pages s past in
@@ -94,7 +92,7 @@ still s past event prepared v kept marks at is settled same =
           };
     }
 
-pub quiet_answer_is : (s : Setting) (past : List Entry) (event : DriverEvent) (prepared : Option Prepared) (names : Option (List Name)) (v : Subscriptions) (kept : Settled) (marks : Vec Bool Global) → AreSubscribedAt s past v → names_with names v.last ≡ references (pages s past) →
+pub quiet_answer_is : (s : Setting) (past : List Entry) (event : DriverEvent) (prepared : Option Prepared) (names : Option (List Name)) (v : Subscriptions) (kept : Settled) (marks : List Bool) → AreSubscribedAt s past v → names_with names v.last ≡ references (pages s past) →
     IsRepeat (is_report event) names v.last kept → IsAnsweredAt s past event prepared (quiet_answer kept.missing marks) (record { watcher = v.watcher; last = Some kept })
 quiet_answer_is s past event prepared names v kept marks at refers by =
     let same : kept.references ≡ references (pages s past) = sym by.same ∙ refers in

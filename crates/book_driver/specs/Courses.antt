@@ -1,7 +1,5 @@
 -- How an event is answered: as the driver's last entry left it, or by what it brings.
 use Rattle.std.specs.Prelude.{◌≡◌, List, [], Bool, true, Option, None, Some}
-use Rattle.std.specs.declared.alloc.Global.{Global}
-use Rattle.std.specs.declared.vec.Vec.{Vec}
 use Rattle.xc_base.specs.declared.names.Key.{Key}
 use Rattle.ads_stream.specs.declared.verdict.Verdict.{Verdict}
 use Rattle.config_assembly.specs.Orders.{Name}
@@ -23,5 +21,5 @@ IsCourse is_quiet names last (Repeats kept) = IsRepeat is_quiet names last kept
 IsCourse is_quiet names last (Renews references) = (references ≡ names_with names last) × ((kept : Settled) → IsRepeat is_quiet names last kept → ⊥)
 
 -- the answer that changes nothing, with these marks of no configuration
-abbrev pub quiet_answer : Option Key → Vec Bool Global → Renewal
+abbrev pub quiet_answer : Option Key → List Bool → Renewal
 quiet_answer missing marks = record { verdict = Verdict.Done; refused = []; sent = []; missing = missing; made = None; others = marks }

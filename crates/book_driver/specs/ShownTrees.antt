@@ -1,7 +1,6 @@
 -- The configuration and its trees, what is seen of them after an entry, and what is published of that.
 use Rattle.std.specs.Option.{option_or}
-use Rattle.std.specs.Prelude.{◌≡◌, ℕ, Bool, false, get_or, slice_get, List, Option, None, Some, IfSome, option_and_then, option_map}
-use Rattle.xds_config.specs.declared.config.ClusterEntry.{ClusterEntry}
+use Rattle.std.specs.Prelude.{◌≡◌, ℕ, Bool, false, List, Option, None, Some, IfSome, option_and_then, option_map}
 use Rattle.xds_config.specs.declared.config.Config.{Config}
 use Rattle.xds_config.specs.Configs.{IsLawfulConfig}
 use Rattle.cluster_tree.specs.declared.snapshot.Snapshot.{Snapshot}
@@ -30,10 +29,6 @@ pub record AreConfiguredAt (s : Setting) (past : List Entry) (t : ConfiguredTree
 pub record AreConfiguredWith (s : Setting) (event : DriverEvent) (past : List Entry) (t : ConfiguredTrees) : Type 0 where
   pub trees_are : AreTreesWith event past (pages s past) t.trees
   pub config_is : t.config ≡ config_now (pages s past)
-
--- entries without a mark are the same
-abbrev pub AreSameBut : List Bool → List ClusterEntry → List ClusterEntry → Type 0
-AreSameBut marks entries others = (place : ℕ) (entry : ClusterEntry) → slice_get others place ≡ Some entry → get_or marks place false ≡ false → slice_get entries place ≡ Some entry
 
 -- ---- the configuration that was made, where it isn't the one from before
 

@@ -1,5 +1,5 @@
 //! The configuration and its trees, and what is published of them.
-ghost use Rattle.std.specs.Prelude.{◌≡◌, ◌<◌, ◌+◌, ◌^◌, ◌↔◌, ◌∷◌, ℕ, List, Option, Some, None, true, false, length, map, IfOk, IfSome, IsTrue, OnOk};
+ghost use Rattle.std.specs.Prelude.{◌≡◌, ◌<◌, ◌+◌, ◌^◌, ◌↔◌, ◌∷◌, ℕ, List, Option, Some, None, true, false, IfOk, IfSome, IsTrue, OnOk};
 ghost use Rattle.std.specs.Option.{option_or};
 ghost use Rattle.xds_config.specs.declared.config.Config.{Config as ConfigValue};
 ghost use Rattle.xds_config.specs.Configs.{IsLawfulConfig};
@@ -16,17 +16,18 @@ ghost use Rattle.book_trees.specs.xds_history.Pages.{driven, pages};
 ghost use Rattle.book_trees.specs.xds_history.Right.{IsNumber};
 ghost use Rattle.book_trees.specs.ReportedLaws.{ShowsWhatStands};
 ghost use Rattle.book_trees.specs.TreesKept.{AreTreesAt, IsPageOf, cluster_names, clusters_of, reported_in};
-ghost use Rattle.book_driver.specs.ShownTrees.{AreConfiguredWith, AreSameBut, AreSeen, IsNews, IsSeen, IsShownBy, published_by, stands_with};
+ghost use Rattle.book_driver.specs.ShownTrees.{AreConfiguredWith, AreSeen, IsNews, IsSeen, IsShownBy, published_by, stands_with};
 
 use block_list::BlockList;
 use book_trees::ReportedTrees;
 use book_trees::due_numbers::{differs, due_number};
 use call_journal::DriverEvent;
-use cluster_tree::FollowedViews;
+use cluster_tree::{FollowedViews, NextConfig};
+use config_compare::{are_same_clusters, have_same_names};
 use place_marks::Marks;
 use tree_text::ShownTree;
 use xc_base::{Memory, Reason, Same, Shared};
-use xds_config::{ClusterEntry, Config};
+use xds_config::Config;
 
 /// The trees, and the configuration whose trees they are.
 #[derive(Drop)]
@@ -67,47 +68,17 @@ pub struct Published {
     pub is_renamed: bool,
 }
 
-/// Whether two clusters' entries are the same, where they may be others.
-fn is_same_entry(entry: &ClusterEntry, other: &ClusterEntry, may_differ: bool) -> bool
-    requires { may_differ ≡ false → entry.now ≡ other.now }
-    ensures { IsTrue result ↔ (entry.now ≡ other.now) }
-{
-    !may_differ || entry.same(other)
-}
-
-/// Whether the entries of the configuration that stands are those of another one, in which each without a mark is.
-fn are_same_entries(
-    entries: &[Shared<ClusterEntry>],
-    others: &[Shared<ClusterEntry>],
-    marks: &[bool],
-) -> bool
-    requires count { length marks.now ≡ length others.now }
-    requires unmarked { AreSameBut marks.now entries.now others.now }
-    ensures { IsTrue result ↔ (entries.now ≡ others.now) }
-{
-    if entries.len() != others.len() {
-        return false;
-    }
-    for place in 0..entries.len() {
-        if !is_same_entry(entries[place].get(), others[place].get(), marks[place]) {
-            return false;
-        }
-    }
-    true
-}
-
 /// Whether two configurations are the same. Clusters differ more often than fronts, so they are looked at first; those without a
 /// mark are the same.
-fn are_same(config: &Config, other: &Config, marks: &[bool]) -> bool
+fn are_same(config: &Config, other: &Config, marks: &Marks) -> bool
     requires { StandAsShown marks.now (Some config.now) other.now }
     ensures { IsTrue result ↔ (config.now ≡ other.now) }
 {
-    let entries = config.clusters.as_slice();
-    are_same_entries(entries, other.clusters.as_slice(), marks) && config.front.same(&other.front)
+    are_same_clusters(&config.clusters, &other.clusters, marks) && config.front.same(&other.front)
 }
 
 /// Whether the configuration is the one that stands.
-fn stands(config: &Option<Shared<Config>>, new: &Shared<Config>, marks: &[bool]) -> bool
+fn stands(config: &Option<Shared<Config>>, new: &Shared<Config>, marks: &Marks) -> bool
     requires { StandAsShown marks.now config.now new.now }
     ensures { IsTrue result ↔ (config.now ≡ Some new.now) }
 {
@@ -121,7 +92,7 @@ fn stands(config: &Option<Shared<Config>>, new: &Shared<Config>, marks: &[bool])
 fn news(
     made: Option<Shared<Config>>,
     config: &Option<Shared<Config>>,
-    marks: &[bool],
+    marks: &Marks,
 ) -> Option<Shared<Config>>
     requires { IfSome made (λ new. StandAsShown marks.now config.now new) }
     ensures { IsNews made config.now result }
@@ -135,46 +106,14 @@ fn news(
     Some(new)
 }
 
-/// Whether two clusters have the same name, where their entries may be others.
-fn has_same_name(entry: &ClusterEntry, other: &ClusterEntry, may_differ: bool) -> bool
-    requires { may_differ ≡ false → entry.now ≡ other.now }
-    ensures { result ≡ true → entry.now.name ≡ other.now.name }
-{
-    !may_differ || entry.name.same(&other.name)
-}
-
-/// Whether clusters stand for the same names, place by place, where an entry without a mark is the one that stood at its place.
-fn have_same_names(
-    entries: &[Shared<ClusterEntry>],
-    others: &[Shared<ClusterEntry>],
-    marks: &[bool],
-) -> bool
-    requires count { length marks.now ≡ length others.now }
-    requires unmarked { AreSameBut marks.now entries.now others.now }
-    ensures { result ≡ true → map (λ e. e.name) entries.now ≡ map (λ e. e.name) others.now }
-{
-    if entries.len() != others.len() {
-        return false;
-    }
-    for place in 0..entries.len() {
-        if !has_same_name(entries[place].get(), others[place].get(), marks[place]) {
-            return false;
-        }
-    }
-    true
-}
-
 /// Whether clusters of other names may stand at the places of a configuration than at those of the one from before, in which
 /// each entry without a mark is.
-fn is_renamed(before: &Option<Shared<Config>>, config: &Config, marks: &[bool]) -> bool
+fn is_renamed(before: &Option<Shared<Config>>, config: &Config, marks: &Marks) -> bool
     requires { StandAsShown marks.now before.now config.now }
     ensures { result ≡ false → cluster_names before.now ≡ cluster_names (Some config.now) }
 {
     match before {
-        Some(before) => {
-            let entries = before.get().clusters.as_slice();
-            !have_same_names(entries, config.clusters.as_slice(), marks)
-        }
+        Some(before) => !have_same_names(&before.get().clusters, &config.clusters, marks),
         None => true,
     }
 }
@@ -216,18 +155,24 @@ impl ConfiguredTrees {
         &mut self,
         event: &DriverEvent,
         config: Shared<Config>,
-        others: &[bool],
+        others: &Marks,
     ) -> Result<Seen, Memory>
         requires lawful { IsLawfulConfig config }
         requires others { EntriesStay others.now self.old.trees.trees.clusters config.clusters }
         requires shown { StandAsShown others.now self.old.config config }
+        requires entries { entries_of self.old.trees.trees.clusters ≡ clusters_of self.old.config }
         requires changes { ChangesAt (reported_in event.now) self.old.trees.reports.entries self.old.trees.trees }
         ensures seen { IfOk result (λ seen. (s : Setting) (past : List EntryValue) → AreConfiguredWith s event.now past self.old → (self.old.config ≡ Some config → ⊥) → IsSeen s event.now past config seen) }
         ensures config { OnOk result (self.new.config ≡ Some config) }
         ensures kept { OnOk result ((s : Setting) (past : List EntryValue) (line : ℕ) (reply : DriverReply) (page : Page) → AreConfiguredWith s event.now past self.old → IsPageOf event.now past (pages s past) (Some config) page → AreTreesAt (driven 0 line event.now reply ∷ past) (page ∷ pages s past) self.new.trees) }
     {
-        let FollowedViews { seen, anew } = self.trees.follow(event, &config, others)?;
         let is_renamed = is_renamed(&self.config, config.get(), others);
+        let next = NextConfig {
+            config: &config,
+            others,
+            is_renamed,
+        };
+        let FollowedViews { seen, anew } = self.trees.follow(event, next)?;
         self.config = Some(config);
         Ok(Seen {
             views: seen.views,
@@ -273,7 +218,7 @@ impl ConfiguredTrees {
         &mut self,
         event: &DriverEvent,
         made: Option<Shared<Config>>,
-        others: &[bool],
+        others: &Marks,
     ) -> Result<Option<Seen>, Memory>
         requires lawful { IfSome made IsLawfulConfig }
         requires changes { ChangesAt (reported_in event.now) self.old.trees.reports.entries self.old.trees.trees }
@@ -303,7 +248,7 @@ impl ConfiguredTrees {
         &mut self,
         event: &DriverEvent,
         made: Option<Shared<Config>>,
-        others: &[bool],
+        others: &Marks,
         latest: Option<u32>,
     ) -> Result<Option<Published>, Memory>
         requires lawful { IfSome made IsLawfulConfig }

@@ -19,6 +19,7 @@ use book_hearing::hear;
 use book_trees::Prepared;
 use call_journal::{DriverEvent, Sent};
 use driver_step::Reached;
+use place_marks::Marks;
 use std::sync::ledger::Ledger;
 use xc_base::{Key, List, Memory, Shared, Steps, Text, Time};
 use xds_config::Config;
@@ -38,7 +39,7 @@ pub struct Renewal {
     pub made: Option<Shared<Config>>,
     /// For each of its clusters, whether its entry may be another one than stood at its place in the configuration that was made
     /// last before this one.
-    pub others: Vec<bool>,
+    pub others: Marks,
 }
 
 /// What is taken in of an event.
@@ -100,7 +101,7 @@ impl Watcher {
         requires at { HasWatched self.old }
         ensures step { IfOk result (λ r. (s : Setting) (past : List EntryValue) → IsWatcherAt s past self.old → IsTimely s past event.now now references.now → IsRenewalAt s past event.now prepared r self.new) }
         ensures whole { IfOk result (λ r. IsSome r.made ↔ IsNone r.missing) }
-        ensures others { IfOk result (λ r. IfSome r.made (λ config. StandAsShown r.others.items self.old.deps.shown config)) }
+        ensures others { IfOk result (λ r. IfSome r.made (λ config. StandAsShown r.others self.old.deps.shown config)) }
         ensures shown { IfOk result (λ r. self.new.deps.shown ≡ option_or r.made self.old.deps.shown) }
         ensures lawful { IfOk result (λ r. IfSome r.made IsLawfulConfig) }
     {

@@ -19,6 +19,7 @@ use crate::watcher::Watcher;
 use ads_stream::Verdict;
 use book_trees::Prepared;
 use call_journal::DriverEvent;
+use place_marks::Marks;
 use std::alloc::Global;
 use std::sync::ledger::Ledger;
 use xc_base::{Key, List, Memory, Same, Steps, Text, Time};
@@ -128,7 +129,7 @@ fn repeat(alloc: Global, missing: Option<Key>) -> Renewal
         sent: List::new(alloc),
         missing,
         made: None,
-        others: Vec::new(alloc),
+        others: Marks::none(alloc, 0),
     }
 }
 
@@ -147,7 +148,7 @@ impl Subscriptions {
         requires at { HasWatched self.old.watcher }
         ensures step { IfOk result (λ r. (s : Setting) (past : List EntryValue) → IsWatcherAt s past self.old.watcher → IsTimely s past event.now now references → IsAnsweredAt s past event.now prepared r self.new) }
         ensures lawful { IfOk result (λ r. IfSome r.made IsLawfulConfig) }
-        ensures others { IfOk result (λ r. IfSome r.made (λ config. StandAsShown r.others.items self.old.watcher.deps.shown config)) }
+        ensures others { IfOk result (λ r. IfSome r.made (λ config. StandAsShown r.others self.old.watcher.deps.shown config)) }
         ensures shown { IfOk result (λ r. self.new.watcher.deps.shown ≡ option_or r.made self.old.watcher.deps.shown) }
     {
         let renewal = self
@@ -188,7 +189,7 @@ impl Subscriptions {
         requires at { HasSubscribed self.old }
         ensures step { IfOk result (λ r. (s : Setting) (past : List EntryValue) → AreSubscribedAt s past self.old → IsTimely s past event.now now (names_with references self.old.last) → IsAnsweredAt s past event.now prepared r self.new) }
         ensures lawful { IfOk result (λ r. IfSome r.made IsLawfulConfig) }
-        ensures others { IfOk result (λ r. IfSome r.made (λ config. StandAsShown r.others.items self.old.watcher.deps.shown config)) }
+        ensures others { IfOk result (λ r. IfSome r.made (λ config. StandAsShown r.others self.old.watcher.deps.shown config)) }
         ensures shown { IfOk result (λ r. self.new.watcher.deps.shown ≡ option_or r.made self.old.watcher.deps.shown) }
         ensures still { (last : SettledValue) → IsRepeat (is_report event.now) references self.old.last last → steps.new ≡ steps.old }
     {

@@ -87,7 +87,7 @@ impl Watcher {
         ensures stays { IfOk result (λ o. o.stays ≡ true → o.reached ≡ self.new.fates.reached) }
         ensures whole { IfOk result (λ o. IsSome o.config ↔ IsNone o.missing) }
         ensures lawful { IfOk result (λ o. IfSome o.config IsLawfulConfig) }
-        ensures others { IfOk result (λ o. IfSome o.config (λ config. StandAsShown o.others.items self.old.deps.shown config)) }
+        ensures others { IfOk result (λ o. IfSome o.config (λ config. StandAsShown o.others self.old.deps.shown config)) }
         ensures shown { IfOk result (λ o. self.new.deps.shown ≡ option_or o.config self.old.deps.shown) }
     {
         let outcome = self.deps.update(

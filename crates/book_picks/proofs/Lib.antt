@@ -1,6 +1,7 @@
 pub mod CountedLemmas
 pub mod IndexLemmas
 pub mod ServedLemmas
+pub mod NamedPlaces
 pub mod RowLemmas
 pub mod TakenLemmas
 pub mod ShownKeys

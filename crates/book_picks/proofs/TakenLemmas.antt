@@ -1,9 +1,8 @@
 -- What is kept once a pick was answered.
 use Rattle.std.proofs.Common.{◌≡◌, ℕ, suc, ◌+◌, ◌-◌, ◌<◌, ◌≤◌, ◌^◌, min, Bool, true, false, List, [], ◌∷◌, map, length, get_or, set, refl, sym, ap, ◌∙◌, subst, arith, Option, Some, None, eq-eqb, eqb-true, zero-add}
-use Rattle.std.specs.Prelude.{◌&&◌, ◌==◌, if◌then◌else◌, option_map, option_and_then, bytes_eq}
+use Rattle.std.specs.Prelude.{◌&&◌, ◌==◌, if◌then◌else◌, option_map, option_and_then, slice_get, bytes_eq}
 use Rattle.std.specs.Option.{option_map_or}
 use Rattle.std.specs.Map.{lookup}
-use Rattle.std.specs.Ordering.{is_eq}
 use Rattle.std.proofs.lemmas.List.{get_or-set_same, get_or-set_other, length-set}
 use Rattle.std.proofs.lemmas.Slice.Eq.{bytes_eq-Decides}
 use Rattle.xc_base.specs.declared.names.CallId.{CallId}
@@ -13,7 +12,7 @@ use Rattle.call_journal.specs.declared.event.CallerEvent.{CallerEvent}
 use Rattle.call_journal.specs.declared.reply.CallerReply.{CallerReply}
 use Rattle.call_journal.specs.declared.entry.What.{What}
 use Rattle.call_journal.specs.declared.entry.Entry.{Entry}
-use Rattle.book_trees.specs.config_assembly.Orders.{Name, name_cmp}
+use Rattle.book_trees.specs.config_assembly.Orders.{Name}
 use Rattle.book_trees.specs.xds_history.Setting.{Setting}
 use Rattle.book_trees.specs.xds_history.declared.page.ClusterTrees.{ClusterTrees}
 use Rattle.book_trees.specs.xds_history.declared.page.Page.{Page}
@@ -28,6 +27,7 @@ use Rattle.book_picks.specs.CountedPlaces.{AreNumbered, IsRaised, KeepsIndexes, 
 use Rattle.book_picks.specs.ChosenPlaces.{key_of, served}
 use Rattle.book_picks.specs.TakenTurns.{TakesTurn, place_taken}
 use Rattle.book_trees.specs.TreesKept.{clusters_of}
+use Rattle.book_picks.specs.NamedPlaces.{ArePlacesOf}
 use Rattle.book_picks.specs.TurnsKept.{AreRowsOf, AreTurnsAt, HasRow}
 use Rattle.book_picks.proofs.CountedLemmas.{same_parts}
 use Rattle.book_picks.proofs.IndexLemmas.{indexes_stay}
@@ -164,18 +164,17 @@ module _ (ps : List Page) (old new : PlaceCounts) (numbered : AreNumbered old) (
 
 -- ---- rows stay
 
-row_stays : (t new : Turns) (name : Name) (place : ℕ) (keys : List PlaceKey) → new.rows ≡ t.rows → KeepsIndexes t.counts new.counts → HasRow t name place keys → HasRow new name place keys
-row_stays t new name place keys rows stay has = record {
+row_stays : (t new : Turns) (place : ℕ) (keys : List PlaceKey) → new.rows ≡ t.rows → KeepsIndexes t.counts new.counts → HasRow t place keys → HasRow new place keys
+row_stays t new place keys rows stay has = record {
   row = has.row;
-  found = ap (λ m. lookup (λ other. is_eq (name_cmp name other)) m.entries) rows ∙ has.found;
-  place_is = has.place_is;
+  found = ap (λ v. slice_get v.items place) rows ∙ has.found;
   indexes_are = indexes_stay t.counts new.counts has.row.indexes keys stay has.indexes_are;
 }
 
-pub rows_stay : (clusters : List ClusterEntry) (trees : List ClusterTrees) (t new : Turns) → new.rows ≡ t.rows → KeepsIndexes t.counts new.counts → AreRowsOf clusters trees t → AreRowsOf clusters trees new
-rows_stay clusters trees t new rows stay are = record {
-  each = λ place entry is. row_stays t new entry.name place (map key_of (served trees entry)) rows stay (are.each place entry is);
-  others = λ name none. ap (λ m. lookup (λ other. is_eq (name_cmp name other)) m.entries) rows ∙ are.others name none;
+pub rows_stay : (clusters : List ClusterEntry) (trees : List ClusterTrees) (t new : Turns) → new.places ≡ t.places → new.rows ≡ t.rows → KeepsIndexes t.counts new.counts → AreRowsOf clusters trees t → AreRowsOf clusters trees new
+rows_stay clusters trees t new places rows stay are = record {
+  each = λ place entry is. row_stays t new place (map key_of (served trees entry)) rows stay (are.each place entry is);
+  places = subst (λ m. ArePlacesOf clusters m.entries) (sym places) are.places;
 }
 
 -- ---- an entry more
@@ -210,7 +209,7 @@ picked ps p t new id word cluster reply are holds takes few what config trees =
           counted_more ps t.counts new.counts are.numbered are.counted few takes.index (place_taken ps cluster reply) takes.raised takes.index_is place
           ∙ ap (λ o. (if option_map_or (same_place place) o false then 1 else 0) + turn place ps) (sym taken);
       rows = subst (λ c. AreRowsOf (clusters_of c) p.trees new) (sym config) (subst (λ ts. AreRowsOf (clusters_of (config_now ps)) ts new) (sym trees)
-          (rows_stay (clusters_of (config_now ps)) (trees_now ps) t new takes.rows stays are.rows));
+          (rows_stay (clusters_of (config_now ps)) (trees_now ps) t new takes.places takes.rows stays are.rows));
     }
 
 -- the page of an entry of a caller

@@ -2,6 +2,7 @@ pub mod CountedPlaces
 pub mod ClusterRows
 pub mod ChosenPlaces
 pub mod TakenTurns
+pub mod NamedPlaces
 pub mod TurnsKept
 pub mod RenewedRows
 pub mod TurnsLaws

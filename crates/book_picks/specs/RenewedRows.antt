@@ -1,5 +1,5 @@
 -- The rows of clusters after a driver's entry.
-use Rattle.std.specs.Prelude.{◌≡◌, ℕ, Bool, true, false, List, Option, Some, None, Result, Ok, Err, get_or, slice_get, position, bytes_eq}
+use Rattle.std.specs.Prelude.{◌≡◌, ◌<◌, ℕ, Bool, true, false, List, Option, Some, None, Result, Ok, Err, length, get_or, slice_get}
 use Rattle.std.specs.Option.{option_map_or}
 use Rattle.xc_base.specs.declared.names.State.{State}
 use Rattle.xc_base.specs.declared.reason.Reason.{Reason}
@@ -28,7 +28,7 @@ use Rattle.book_picks.specs.declared.kept_turns.Turns.{Turns}
 use Rattle.book_picks.specs.CountedPlaces.{Extends}
 use Rattle.book_picks.specs.ClusterRows.{keys_of}
 use Rattle.book_picks.specs.ChosenPlaces.{localities_served}
-use Rattle.book_picks.specs.TurnsKept.{HasRow, row_named}
+use Rattle.book_picks.specs.TurnsKept.{HasRow}
 
 -- the chosen child that is seen
 abbrev pub child_seen : Result TreeView Reason → Option NamedChild
@@ -42,11 +42,11 @@ view_at snapshot place = option_map_or (λ seen. seen) (slice_get snapshot.trees
 abbrev pub keys_at : Forest → Snapshot → ℕ → Name → List PlaceKey
 keys_at forest snapshot place name = keys_of name (child_seen (view_at snapshot place)) (localities_at forest place)
 
--- clusters that are marked have rows by what is seen now, and the others have those from before
+-- places that are marked, and had rows, have those by what is seen now, and the others have those from before
 pub record AreRenewed (forest : Forest) (snapshot : Snapshot) (marks : List Bool) (old new : Turns) : Type 0 where
-  pub fresh : (place : ℕ) (entry : ClusterEntry) → slice_get snapshot.config.clusters place ≡ Some entry → get_or marks place false ≡ true → HasRow new entry.name place (keys_at forest snapshot place entry.name)
-  pub kept : (place : ℕ) (entry : ClusterEntry) (keys : List PlaceKey) → slice_get snapshot.config.clusters place ≡ Some entry → get_or marks place false ≡ false → HasRow old entry.name place keys → HasRow new entry.name place keys
-  pub others : (name : Name) → position (λ c. bytes_eq c.name name) snapshot.config.clusters ≡ None → row_named old name ≡ None → row_named new name ≡ None
+  pub fresh : (place : ℕ) (entry : ClusterEntry) → slice_get snapshot.config.clusters place ≡ Some entry → get_or marks place false ≡ true → place < length old.rows.items → HasRow new place (keys_at forest snapshot place entry.name)
+  pub kept : (place : ℕ) (keys : List PlaceKey) → get_or marks place false ≡ false → HasRow old place keys → HasRow new place keys
+  pub places : new.places ≡ old.places
   pub extends : Extends old.counts new.counts
 
 -- what is seen of a cluster stays, and so do the localities of its chosen child

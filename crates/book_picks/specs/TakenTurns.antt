@@ -40,6 +40,7 @@ place_taken ps cluster _ = None
 
 -- the count of the place that this reply took of, and nothing else, is one more
 pub record TakesTurn (ps : List Page) (cluster : Name) (reply : CallerReply) (old new : Turns) : Type 0 where
+  pub places : new.places ≡ old.places
   pub rows : new.rows ≡ old.rows
   pub index : Option ℕ
   pub raised : IsRaised old.counts new.counts index

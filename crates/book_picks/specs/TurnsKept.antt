@@ -1,11 +1,9 @@
 -- What is kept of picks, and what it is of the history.
-use Rattle.std.specs.Prelude.{◌≡◌, ℕ, List, map, Option, Some, None, option_map, slice_get, position, bytes_eq}
-use Rattle.std.specs.Ordering.{is_eq}
-use Rattle.std.specs.Map.{lookup}
+use Rattle.std.specs.Prelude.{◌≡◌, ℕ, List, map, Option, Some, option_map, slice_get}
 use Rattle.xc_base.specs.declared.names.CallId.{CallId}
 use Rattle.xds_config.specs.declared.config.ClusterEntry.{ClusterEntry}
 use Rattle.cluster_tree.specs.declared.snapshot.Snapshot.{Snapshot}
-use Rattle.book_trees.specs.config_assembly.Orders.{Name, name_cmp}
+use Rattle.book_trees.specs.config_assembly.Orders.{Name}
 use Rattle.book_trees.specs.xds_history.declared.page.ClusterTrees.{ClusterTrees}
 use Rattle.book_trees.specs.xds_history.declared.page.Page.{Page}
 use Rattle.book_trees.specs.xds_history.Page.{config_now, trees_now, latest}
@@ -19,22 +17,19 @@ use Rattle.book_picks.specs.declared.cluster_rows.Row.{Row}
 use Rattle.book_picks.specs.declared.kept_turns.Turns.{Turns}
 use Rattle.book_picks.specs.CountedPlaces.{AreNumbered, count_of}
 use Rattle.book_picks.specs.ClusterRows.{AreIndexesOf}
+use Rattle.book_picks.specs.NamedPlaces.{ArePlacesOf}
 use Rattle.book_picks.specs.ChosenPlaces.{key_of, served}
 
-abbrev pub row_named : Turns → Name → Option Row
-row_named turns name = lookup (λ other. is_eq (name_cmp name other)) turns.rows.entries
-
--- the cluster of this name has a row: its place, and where the counts of these localities stand
-pub record HasRow (turns : Turns) (name : Name) (place : ℕ) (keys : List PlaceKey) : Type 0 where
+-- the cluster at a place has a row: where the counts of these localities stand
+pub record HasRow (turns : Turns) (place : ℕ) (keys : List PlaceKey) : Type 0 where
   pub row : Row
-  pub found : row_named turns name ≡ Some row
-  pub place_is : row.place ≡ place
+  pub found : slice_get turns.rows.items place ≡ Some row
   pub indexes_are : AreIndexesOf turns.counts row.indexes keys
 
--- each cluster has its row, and nothing else has one
+-- each cluster has its row at its place, where it is found by its name, and no other name is found
 pub record AreRowsOf (clusters : List ClusterEntry) (trees : List ClusterTrees) (turns : Turns) : Type 0 where
-  pub each : (place : ℕ) (entry : ClusterEntry) → slice_get clusters place ≡ Some entry → HasRow turns entry.name place (map key_of (served trees entry))
-  pub others : (name : Name) → position (λ c. bytes_eq c.name name) clusters ≡ None → row_named turns name ≡ None
+  pub each : (place : ℕ) (entry : ClusterEntry) → slice_get clusters place ≡ Some entry → HasRow turns place (map key_of (served trees entry))
+  pub places : ArePlacesOf clusters turns.places.entries
 
 -- after these entries: each count is the turn of its place, and the rows are those of the clusters that stand
 pub record AreTurnsAt (ps : List Page) (turns : Turns) : Type 0 where

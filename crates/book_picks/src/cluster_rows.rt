@@ -1,5 +1,5 @@
 //! The rows of clusters: where the counts of a cluster's localities stand.
-ghost use Rattle.std.specs.Prelude.{◌≡◌, Some, map, option_copied, IfOk, OnOk};
+ghost use Rattle.std.specs.Prelude.{◌≡◌, Some, length, map, set, option_copied, IfOk, OnOk};
 ghost use Rattle.book_picks.specs.CountedPlaces.{Extends, index_of};
 ghost use Rattle.book_picks.specs.ClusterRows.{AreIndexesOf, key_in, keys_in, keys_of};
 
@@ -12,10 +12,30 @@ use xds_config::{Locality, LocalityId};
 /// A cluster of the configuration.
 #[derive(Drop)]
 pub struct Row {
-    /// Its place in the configuration, from 0.
-    pub place: u32,
     /// The index of the count of each locality of its chosen child, in order.
     pub indexes: List<usize>,
+}
+
+/// Rows of so many clusters, of which none has a locality yet. It fails for want of memory alone.
+pub fn bare_rows(alloc: Global, count: usize) -> Result<Vec<Row>, Memory>
+    ensures { IfOk result (λ rows. length rows.items ≡ count) }
+{
+    let mut rows = Vec::with_capacity(alloc, count)?;
+    for _ in 0..count {
+        rows.push(Row {
+            indexes: List::new(alloc),
+        })?;
+    }
+    Ok(rows)
+}
+
+/// Puts a row at a place, where there is one. It takes no memory.
+pub fn put_row(rows: &mut Vec<Row>, place: u32, row: Row)
+    ensures { rows.new.items ≡ set rows.old.items place row }
+{
+    if let Some(old) = rows.get_mut(place as usize) {
+        *old = row;
+    }
 }
 
 /// A locality in a child of a cluster.

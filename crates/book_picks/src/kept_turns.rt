@@ -28,8 +28,17 @@ use xc_base::{Reason, Shared, Text};
 pub struct Turns {
     pub alloc: Global,
     pub counts: PlaceCounts,
-    /// The clusters of the configuration by their names.
-    pub rows: BTreeMap<Text, Row>,
+    /// The place of each cluster of the configuration, from 0, by its name.
+    pub places: BTreeMap<Text, u32>,
+    /// Where the counts of each cluster stand, by its place.
+    pub rows: Vec<Row>,
+}
+
+/// The row of the cluster at a place.
+fn row_at(rows: &Vec<Row>, place: u32) -> Option<&Row>
+    ensures { option_copied result ≡ slice_get rows.now.items place }
+{
+    rows.get(place as usize)
 }
 
 /// What is seen of the cluster at a place.
@@ -47,7 +56,8 @@ impl Turns {
         Turns {
             alloc,
             counts: PlaceCounts::new(alloc),
-            rows: BTreeMap::new(alloc),
+            places: BTreeMap::new(alloc),
+            rows: Vec::new(alloc),
         }
     }
 
@@ -79,10 +89,13 @@ impl Turns {
         ensures reply { (ps : List PageValue) → AreTurnsAt ps self.old → IsShownAt ps snapshot.now → result ≡ held_reply ps word (Some cluster.now) (Some snapshot.now) }
         ensures takes { (ps : List PageValue) → AreTurnsAt ps self.old → IsShownAt ps snapshot.now → TakesTurn ps cluster.now result self.old self.new }
     {
-        let Some(row) = self.rows.get(cluster) else {
+        let Some(place) = self.places.get(cluster) else {
             return CallerReply::NotHeld;
         };
-        let Some(view) = view_at(snapshot, row.place) else {
+        let Some(row) = row_at(&self.rows, *place) else {
+            return CallerReply::NotHeld;
+        };
+        let Some(view) = view_at(snapshot, *place) else {
             return CallerReply::NotHeld;
         };
         match view {

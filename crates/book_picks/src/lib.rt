@@ -3,6 +3,7 @@
 //! history.
 #![tactic(auto)]
 
+pub mod cluster_places;
 pub mod cluster_rows;
 pub mod kept_turns;
 pub mod part_picks;

@@ -2,21 +2,20 @@
 ghost use Rattle.std.specs.Prelude.{◌≡◌, ◌≢◌, ◌<◌, ◌^◌, ◌∷◌, ℕ, List, Some, false, length, get_or, slice_get, option_copied, OnOk};
 ghost use Rattle.xds_config.specs.Configs.{IsLawfulConfig};
 ghost use Rattle.cluster_tree.specs.ViewChanges.{localities_at};
-ghost use Rattle.book_trees.specs.config_assembly.Orders.{Name};
 ghost use Rattle.call_journal.specs.declared.entry.Entry.{Entry as EntryValue};
 ghost use Rattle.book_trees.specs.xds_history.Setting.{Setting};
 ghost use Rattle.book_trees.specs.xds_history.Page.{trees_now};
 ghost use Rattle.book_trees.specs.xds_history.Pages.{pages};
 ghost use Rattle.book_picks.specs.CountedPlaces.{Extends};
 ghost use Rattle.book_picks.specs.ClusterRows.{keys_of};
-ghost use Rattle.book_picks.specs.TurnsKept.{AreTurnsAt, HasRow, row_named};
+ghost use Rattle.book_picks.specs.TurnsKept.{AreTurnsAt, HasRow};
 ghost use Rattle.book_picks.specs.RenewedRows.{AreMarksOf, AreRenewed, IsPublishedAt, ServesLocalities, child_seen, keys_at};
 
-use crate::cluster_rows::{Row, indexes_of};
+use crate::cluster_places::places_of;
+use crate::cluster_rows::{Row, bare_rows, indexes_of, put_row};
 use crate::kept_turns::Turns;
 use cluster_tree::{NamedChild, Snapshot, Trees};
 use place_marks::Marks;
-use std::collections::BTreeMap;
 use tree_text::ShownTree;
 use xc_base::{Memory, Reason, Shared, Text};
 
@@ -58,14 +57,17 @@ impl Turns {
         Ok(())
     }
 
-    /// Makes the rows of all clusters anew.
+    /// Makes the rows of all clusters anew, and their places.
     fn renew_all(&mut self, trees: &Trees, snapshot: &Snapshot) -> Result<(), Memory>
         requires lawful { IsLawfulConfig snapshot.now.config }
         requires views { length snapshot.now.trees ≡ length snapshot.now.config.clusters }
         ensures { OnOk result ((s : Setting) (past : List EntryValue) (e : EntryValue) → AreTurnsAt (pages s past) self.old → IsPublishedAt s past e snapshot.now → ServesLocalities trees.entry.now snapshot.now.config (trees_now (pages s (e ∷ past))) → AreTurnsAt (pages s (e ∷ past)) self.new) }
     {
-        self.rows = BTreeMap::new(self.alloc);
-        let marks = Marks::all(self.alloc, snapshot.config.get().clusters.len())?;
+        let clusters = snapshot.config.get().clusters.as_blocks();
+        let count = clusters.len();
+        self.places = places_of(self.alloc, clusters)?;
+        self.rows = bare_rows(self.alloc, count)?;
+        let marks = Marks::all(self.alloc, count)?;
         self.renew_rows(trees, snapshot, &marks)?;
         Ok(())
     }
@@ -82,9 +84,9 @@ impl Turns {
         requires marks { length marks.now ≡ length snapshot.now.config.clusters }
         ensures { OnOk result (AreRenewed trees.entry.now snapshot.now marks.now self.old self.new) }
     {
-        let entries = snapshot.config.get().clusters.as_slice();
+        let entries = snapshot.config.get().clusters.as_blocks();
         for place in marks.places() {
-            let name = &entries[*place as usize].get().name;
+            let name = &entries.at(*place as usize).get().name;
             self.renew_row(trees, *place, name, snapshot.trees.at(*place as usize))?;
         }
         Ok(())
@@ -98,14 +100,16 @@ impl Turns {
         cluster: &Text,
         seen: &Result<Shared<ShownTree>, Reason>,
     ) -> Result<(), Memory>
-        ensures row { OnOk result (HasRow self.new cluster.now place (keys_of cluster.now (child_seen seen.now) (localities_at trees.entry.now place))) }
-        ensures others { OnOk result ((other : Name) → other ≢ cluster.now → row_named self.new other ≡ row_named self.old other) }
+        ensures row { OnOk result (place < length self.old.rows.items → HasRow self.new place (keys_of cluster.now (child_seen seen.now) (localities_at trees.entry.now place))) }
+        ensures others { OnOk result ((other : ℕ) → other ≢ place → slice_get self.new.rows.items other ≡ slice_get self.old.rows.items other) }
+        ensures many { OnOk result (length self.new.rows.items ≡ length self.old.rows.items) }
+        ensures places { OnOk result (self.new.places ≡ self.old.places) }
         ensures extends { OnOk result (Extends self.old.counts self.new.counts) }
     {
         let localities = trees.localities(place)?;
         let child = chosen_child(seen);
         let indexes = indexes_of(self.alloc, &mut self.counts, cluster, child, &localities)?;
-        self.rows.insert(cluster.clone()?, Row { place, indexes })?;
+        put_row(&mut self.rows, place, Row { indexes });
         Ok(())
     }
 }

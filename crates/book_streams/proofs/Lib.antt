@@ -7,4 +7,5 @@ pub mod ErrorLemmas
 pub mod SettleLemmas
 pub mod MarkLemmas
 pub mod TellLemmas
+pub mod DueLemmas
 mod ToldLemmas

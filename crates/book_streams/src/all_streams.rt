@@ -19,6 +19,7 @@ ghost use Rattle.book_streams.specs.StreamsKept.{names_among, states_of, states_
 ghost use Rattle.book_streams.specs.StreamsLaws.{IsTold, authority_in, came_with, turned_state, entry_of, lost_if, response_came};
 ghost use Rattle.book_streams.specs.Telling.{told_first, sent_first};
 
+use crate::due_requests::Due;
 use crate::event_turns::{authority_in, turn_by};
 use crate::marked_streams::{tell_marked, watch};
 use crate::stream_marks::StreamMarks;
@@ -27,28 +28,32 @@ use ads_stream::{Stream, Verdict};
 use call_journal::{DriverEvent, Sent};
 use std::alloc::Global;
 use std::marker::Model;
+use std::mem::replace;
 use xc_base::{Authority, Key, Kind, List, Memory, Node, Text};
 use xds_history::Turn;
 
 /// A stream for each authority, in the order of the bootstrap; there are at most 65,536. Nothing is due on a stream that isn't
-/// marked, by the keys that were told last. Contracts see the states of the streams, and these keys.
+/// marked, by the keys that were told last, and of one that is it may be known that only an answer is. Contracts see the states
+/// of the streams, and these keys.
 #[derive(Drop)]
 pub struct Streams {
     alloc: Global,
     streams: Vec<Stream>,
     marks: StreamMarks,
     told: ToldKeys,
+    due: Due,
 }
 
 impl Model for Streams {
-    ghost use Rattle.book_streams.specs.StreamsKept.{StreamsKept};
+    ghost use Rattle.book_streams.specs.StreamsKept.{StreamsKept, names_among};
+    ghost use Rattle.book_streams.specs.DueRequests.{AreSettledBut};
     ghost use Rattle.book_streams.specs.Settling.{AreKept};
 
     ghost Value = { StreamsKept };
 
     ghost view = { λ b. record { states = b.streams.items; told = b.told } };
 
-    ghost invariant = { λ b. AreKept b.streams.items b.marks b.told };
+    ghost invariant = { λ b. AreKept b.streams.items b.marks b.told × AreSettledBut b.streams.items (names_among b.told) b.due };
 }
 
 /// A copy of a node.
@@ -86,6 +91,7 @@ impl Streams {
             streams,
             marks,
             told: ToldKeys::new(alloc),
+            due: Due::Any,
         })
     }
 
@@ -102,18 +108,20 @@ impl Streams {
         ensures state { (state : StreamState) → slice_get self.old.states place ≡ Some state → self.new.states ≡ slice_set self.old.states place (opened state) }
         ensures told { self.new.told ≡ self.old.told }
     {
+        self.due = Due::Any;
         self.marks.mark(place);
         self.streams[place].opened();
     }
 
     /// Ends the stream at a place, and answers whether it was up.
-    #[tactic(auto, using(crate::proofs::TellLemmas::kept_marked))]
+    #[tactic(auto, using(crate::proofs::TellLemmas::kept_marked, crate::proofs::DueLemmas::any_settled))]
     fn lose(&mut self, place: usize) -> bool
         requires { place < length self.old.states }
         ensures was_up { (state : StreamState) → slice_get self.old.states place ≡ Some state → result ≡ state.is_up }
         ensures state { (state : StreamState) → slice_get self.old.states place ≡ Some state → self.new.states ≡ slice_set self.old.states place (lost state) }
         ensures told { self.new.told ≡ self.old.told }
     {
+        self.due = Due::Any;
         self.marks.mark(place);
         self.streams[place].lost()
     }
@@ -133,6 +141,7 @@ impl Streams {
         ensures told { self.new.told ≡ self.old.told }
         ensures err { OnErr result (self.new ≡ self.old) }
     {
+        self.due = Due::after_response(place, kind, self.marks.is_marked(place));
         self.marks.mark(place);
         self.streams[place].response(kind, version, nonce, error)
     }
@@ -252,19 +261,28 @@ impl Streams {
     }
 
     /// Tells each stream which keys are watched. Those that aren't marked, and whose names are the same as before, aren't
-    /// looked at.
+    /// looked at. Where only an answer may be due on one, no other kind is.
     fn tell_all(&mut self, keys: &[Key], stays: bool) -> Result<List<Sent>, Memory>
         requires stays { stays ≡ true → keys.now ≡ self.old.told }
         ensures sent { IfOk result (λ sent. sent ≡ sent_first 0 (length self.old.states) (names_among keys.now) self.old.states) }
         ensures state { OnOk result (self.new.states ≡ told_first 0 (length self.old.states) (names_among keys.now) self.old.states) }
         ensures told { OnOk result (self.new.told ≡ keys.now) }
     {
-        watch(self.alloc, &mut self.marks, &mut self.told, keys, stays)?;
+        watch(
+            self.alloc,
+            &mut self.marks,
+            &mut self.told,
+            &mut self.due,
+            keys,
+            stays,
+        )?;
+        let due = replace(&mut self.due, Due::Any);
         let sent = tell_marked(
             self.alloc,
             &mut self.streams,
             &mut self.marks,
             &mut self.told,
+            due,
         )?;
         Ok(sent)
     }

@@ -1,6 +1,6 @@
 //! The names for which one stream asks.
-ghost use Rattle.std.specs.Prelude.{◌≡◌, ◌++◌, ◌∷◌, [], map, IfOk, OnOk};
-ghost use Rattle.ads_stream.specs.StreamSteps.{names_told, requests_due};
+ghost use Rattle.std.specs.Prelude.{◌≡◌, ◌++◌, ◌∷◌, [], map, IfOk, IfSome, OnOk};
+ghost use Rattle.ads_stream.specs.StreamSteps.{names_told, requests_due, IsSettledBut};
 ghost use Rattle.xc_keys.specs.Keys.{kind_place};
 ghost use Rattle.xds_history.specs.Requests.{sent_to};
 ghost use Rattle.book_streams.specs.StreamsKept.{is_asked_of, key_names, names_among};
@@ -91,14 +91,29 @@ fn add_sent(
     Ok(())
 }
 
-/// Tells a stream which keys are watched, and adds the requests that are due on it. A stream that is down costs nothing. It
-/// fails for want of memory alone.
+/// The requests that are due on a stream by these names, which count as sent. Where a kind is given, none of another kind is
+/// due, and no other is looked at. It fails for want of memory alone.
+fn ask(stream: &mut Stream, names: &Names, due: Option<Kind>) -> Result<List<Request>, Memory>
+    requires settled { IfSome due (λ kind. IsSettledBut stream.old names.now kind) }
+    ensures due { IfOk result (λ requests. requests ≡ requests_due stream.old names.now) }
+    ensures state { OnOk result (stream.new ≡ names_told stream.old names.now) }
+{
+    match due {
+        Some(kind) => stream.answer(kind, names),
+        None => stream.names(names),
+    }
+}
+
+/// Tells a stream which keys are watched, and adds the requests that are due on it, which are of one kind where a kind is
+/// given. A stream that is down costs nothing. It fails for want of memory alone.
 pub fn tell(
     authority: Authority,
     stream: &mut Stream,
     told: &mut ToldKeys,
+    due: Option<Kind>,
     sent: &mut List<Sent>,
 ) -> Result<(), Memory>
+    requires settled { IfSome due (λ kind. IsSettledBut stream.old (names_among told.old authority) kind) }
     ensures sent { OnOk result (sent.new ≡ sent.old ++ map (sent_to authority) (requests_due stream.old (names_among told.old authority))) }
     ensures state { OnOk result (stream.new ≡ names_told stream.old (names_among told.old authority)) }
     ensures told { told.new ≡ told.old }
@@ -107,6 +122,6 @@ pub fn tell(
         return Ok(());
     }
     let names = told.names(authority)?;
-    let requests = stream.names(&names)?;
+    let requests = ask(stream, &names, due)?;
     add_sent(authority, requests, sent)
 }

@@ -5,6 +5,7 @@
 pub mod all_streams;
 pub mod asking;
 pub mod changed_names;
+pub mod due_requests;
 pub mod event_turns;
 pub mod marked_streams;
 pub mod refusal_text;

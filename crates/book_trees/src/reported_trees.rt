@@ -1,5 +1,5 @@
 //! The trees of all clusters, by what addresses reported and the time.
-ghost use Rattle.std.specs.Prelude.{◌≡◌, ◌∷◌, ℕ, List, [], Some, OnOk, IfOk, option_map, slice_get};
+ghost use Rattle.std.specs.Prelude.{◌≡◌, ◌∷◌, ℕ, List, [], false, map, Some, OnOk, IfOk, option_map, slice_get};
 ghost use Rattle.call_journal.specs.declared.reply.DriverReply.{DriverReply};
 ghost use Rattle.call_journal.specs.declared.entry.Entry.{Entry};
 ghost use Rattle.xds_config.specs.declared.config.Config.{Config as ConfigValue};
@@ -13,12 +13,12 @@ ghost use Rattle.xds_history.specs.Page.{config_now, trees_now};
 ghost use Rattle.book_trees.specs.TreesKept.{AreMarked, AreTreesAt, AreTreesWith, IsPageOf, IsReport, StayInPlace, driven, reported_in, views_after};
 
 use call_journal::DriverEvent;
-use cluster_tree::{FollowedViews, Trees, UpdatedViews};
+use cluster_tree::{FollowedViews, NextConfig, Trees, UpdatedViews};
 use std::alloc::Global;
 use std::collections::BTreeMap;
 use std::slice;
-use xc_base::{Address, Memory, Shared, State, Time};
-use xds_config::{Config, LocalityId};
+use xc_base::{Address, Memory, State, Time};
+use xds_config::LocalityId;
 
 /// What is kept of the trees.
 #[derive(Drop)]
@@ -85,27 +85,25 @@ impl ReportedTrees {
     /// Brings the trees to a configuration, where this event came. It answers what is seen of each cluster, and which of it
     /// differs from what was seen of the cluster of its name, and which cluster may be another one than stood at its place. A
     /// cluster that is the same as in the configuration before costs little, if it reads no address whose state was reported
-    /// and has no timer that runs; entries are compared where `others` marks them, and one without a mark is known to be the
-    /// one that stood at its place. After want of memory nothing is said of what is kept.
+    /// and has no timer that runs, and next to nothing where the clusters aren't renamed: then entries are compared where
+    /// they are marked alone, and one without a mark is known to be the one that stood at its place. After want of memory nothing is said of what is kept.
     pub fn follow(
         &mut self,
         event: &DriverEvent,
-        config: &Shared<Config>,
-        others: &[bool],
+        next: NextConfig<'_>,
     ) -> Result<FollowedViews, Memory>
-        requires lawful { IsLawfulConfig config.now }
+        requires lawful { IsLawfulConfig next.config.now }
         requires changes { ChangesAt (reported_in event.now) self.old.reports.entries self.old.trees }
-        requires others { EntriesStay others.now self.old.trees.clusters config.now.clusters }
-        ensures views { IfOk result (λ followed. (past : List Entry) (ps : List Page) → AreTreesWith event.now past ps self.old → followed.seen.views ≡ views_after event.now past ps config.now) }
-        ensures changed { IfOk result (λ followed. (past : List Entry) (ps : List Page) → AreTreesWith event.now past ps self.old → AreMarked followed.seen.changed past ps config.now followed.seen.views) }
-        ensures still { IfOk result (λ followed. (past : List Entry) (ps : List Page) → AreTreesWith event.now past ps self.old → StayInPlace followed.anew event.now past ps config.now) }
+        requires others { EntriesStay next.others.now self.old.trees.clusters next.config.now.clusters }
+        requires names { next.is_renamed ≡ false → map (λ e. e.name) next.config.now.clusters ≡ map (λ c. c.entry.name) self.old.trees.clusters }
+        ensures views { IfOk result (λ followed. (past : List Entry) (ps : List Page) → AreTreesWith event.now past ps self.old → followed.seen.views ≡ views_after event.now past ps next.entry.config.now) }
+        ensures changed { IfOk result (λ followed. (past : List Entry) (ps : List Page) → AreTreesWith event.now past ps self.old → AreMarked followed.seen.changed past ps next.entry.config.now followed.seen.views) }
+        ensures still { IfOk result (λ followed. (past : List Entry) (ps : List Page) → AreTreesWith event.now past ps self.old → StayInPlace followed.anew event.now past ps next.entry.config.now) }
         ensures pickable { IfOk result (λ followed. ArePickable followed.seen.views) }
-        ensures kept { OnOk result ((past : List Entry) (ps : List Page) (actor line : ℕ) (reply : DriverReply) (page : Page) → AreTreesWith event.now past ps self.old → IsPageOf event.now past ps (Some config.now) page → AreTreesAt (driven actor line event.now reply ∷ past) (page ∷ ps) self.new) }
+        ensures kept { OnOk result ((past : List Entry) (ps : List Page) (actor line : ℕ) (reply : DriverReply) (page : Page) → AreTreesWith event.now past ps self.old → IsPageOf event.now past ps (Some next.entry.config.now) page → AreTreesAt (driven actor line event.now reply ∷ past) (page ∷ ps) self.new) }
     {
         let changed = reported_in(event);
-        let followed = self
-            .trees
-            .update(config, &self.reports, self.now, changed, others)?;
+        let followed = self.trees.update(next, &self.reports, self.now, changed)?;
         Ok(followed)
     }
 

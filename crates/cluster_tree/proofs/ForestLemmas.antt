@@ -32,11 +32,11 @@ use Rattle.tree_steps.proofs.NameLemmas.{each_once}
 use Rattle.tree_steps.proofs.QuietLemmas.{stand_before}
 use Rattle.tree_steps.proofs.StayLemmas.{trees_stay, view_stays}
 
-map_map : {A B C : Type 0} (g : B → C) (f : A → B) (xs : List A) → map g (map f xs) ≡ map (λ x. g (f x)) xs
+pub map_map : {A B C : Type 0} (g : B → C) (f : A → B) (xs : List A) → map g (map f xs) ≡ map (λ x. g (f x)) xs
 map_map g f [] = refl
 map_map g f (x ∷ xs) = ap (λ ys. g (f x) ∷ ys) (map_map g f xs)
 
-map_same : {A B : Type 0} (f g : A → B) (xs : List A) → All (λ x. f x ≡ g x) xs → map f xs ≡ map g xs
+pub map_same : {A B : Type 0} (f g : A → B) (xs : List A) → All (λ x. f x ≡ g x) xs → map f xs ≡ map g xs
 map_same f g [] each = refl
 map_same f g (x ∷ xs) each = rw (each 0 x (omega arith), map_same f g xs (λ k d lt. each (suc k) d (omega arith))) refl
 
@@ -63,7 +63,7 @@ find_first p (x ∷ xs) (suc k) d lt others here =
 pub names_differ : (a b : List ℕ) → IsNameBefore a b → bytes_eq a b ≡ false
 names_differ a b before = sym (is_eq-slice_cmp a b) ∙ ap is_eq before
 
-named_itself : (clusters : List Cluster) (k : ℕ) (d : Cluster) → AreRising clusters → k < length clusters → cluster_named (get_or clusters k d).entry.name clusters ≡ Some (get_or clusters k d)
+pub named_itself : (clusters : List Cluster) (k : ℕ) (d : Cluster) → AreRising clusters → k < length clusters → cluster_named (get_or clusters k d).entry.name clusters ≡ Some (get_or clusters k d)
 named_itself clusters k d rising lt =
     let name : List ℕ = (get_or clusters k d).entry.name in
     find_first (λ (c : Cluster). bytes_eq c.entry.name name) clusters k d lt
@@ -114,11 +114,11 @@ find_holds P p (x ∷ xs) all = by (p x) (all 0 x (omega arith)) (find_holds P p
     by true here rest = here
     by false here rest = rest
 
-both_hold : {A E : Type 0} (P Q : A → Type 0) (result : Result A E) → IfOk result P → IfOk result Q → IfOk result (λ x. P x × Q x)
+pub both_hold : {A E : Type 0} (P Q : A → Type 0) (result : Result A E) → IfOk result P → IfOk result Q → IfOk result (λ x. P x × Q x)
 both_hold P Q (Ok x) one other = (one, other)
 both_hold P Q (Err e) one other = tt
 
-first_holds : {A E : Type 0} (P Q : A → Type 0) (result : Result A E) → IfOk result (λ x. P x × Q x) → IfOk result P
+pub first_holds : {A E : Type 0} (P Q : A → Type 0) (result : Result A E) → IfOk result (λ x. P x × Q x) → IfOk result P
 first_holds P Q (Ok x) both = both.0
 first_holds P Q (Err e) both = tt
 
@@ -178,6 +178,20 @@ indexed_stepped users now r old new indexed stepped =
       sound = λ k d lt. stepped_sound users now r k (get_or old k d) (get_or new k d) (stepped.each k d (omega (arith, count, lt))) (indexed.sound k d (omega (arith, count, lt)));
     }
 
+-- the same clusters, once it was made anew which of them read which addresses
+pub indexed_anew : (before users : UserList) (clusters : List Cluster) → AreIndexed before clusters → AreRead users clusters → AreIndexed users clusters
+indexed_anew before users clusters indexed read = record {
+  rising = indexed.rising;
+  sound = λ k d lt.
+      let c : Cluster = get_or clusters k d in
+      let was = indexed.sound k d lt in
+      let reads = read k d lt in (
+        both_hold AreLawfulLeaves (λ (L : Leaves). ReadsLeaves users k L.leaves) c.entry.state (first_holds AreLawfulLeaves (λ (L : Leaves). ReadsLeaves before k L.leaves) c.entry.state was.0) reads.0,
+        both_hold (λ (s : Standing). AreLawfulLeaves s.trees.serving.leaves) (λ (s : Standing). ReadsLeaves users k s.trees.serving.leaves.leaves) c.state
+            (first_holds (λ (s : Standing). AreLawfulLeaves s.trees.serving.leaves) (λ (s : Standing). ReadsLeaves before k s.trees.serving.leaves.leaves) c.state was.1) reads.1,
+      );
+}
+
 pub all_lawful : (users : UserList) (clusters : List Cluster) → AreIndexed users clusters → All (λ c. IfOk c.entry.state AreLawfulLeaves) clusters
 all_lawful users clusters indexed = λ k d lt. first_holds AreLawfulLeaves (λ (L : Leaves). ReadsLeaves users k L.leaves) (get_or clusters k d).entry.state (indexed.sound k d lt).0
 
@@ -211,17 +225,16 @@ state_stays users place last now r s (Ok L) old here le agree is sound served on
 state_stays users place last now r s (Err reason) old here le agree is sound served on = sym is
 
 -- a cluster that reads no address whose state differs, and of which no timer has ended
-pub unread_stays : (users : UserList) (changed : List (List ℕ)) (last now : Time) (r s : Reports) (clusters before : List Cluster) → AreIndexed users clusters → clusters ≡ clusters_after last r (entries_of clusters) before → DifferAt changed r s →
-    (place : ℕ) (d : Cluster) → place < length clusters → ((a : List ℕ) → Contains changed a → Contains (users_at users a) place → ⊥) → stands_in now (get_or clusters place d).state ≡ true → last.0 ≤ now.0 →
+pub unread_stays : (users : UserList) (changed : List (List ℕ)) (last now : Time) (r s : Reports) (clusters before : List Cluster) → clusters ≡ clusters_after last r (entries_of clusters) before → DifferAt changed r s →
+    (place : ℕ) (d : Cluster) → place < length clusters → IsSound users place (get_or clusters place d) → ((a : List ℕ) → Contains changed a → Contains (users_at users a) place → ⊥) → stands_in now (get_or clusters place d).state ≡ true → last.0 ≤ now.0 →
     cluster_after now s (get_or clusters place d).entry (Some (get_or clusters place d)) ≡ get_or clusters place d
-unread_stays users changed last now r s clusters before indexed is differ place d lt unread on le =
+unread_stays users changed last now r s clusters before is differ place d lt sound unread on le =
     let c : Cluster = get_or clusters place d in
     let entries : List ClusterEntry = entries_of clusters in
     let g : ClusterEntry → Cluster = after_entry last r before in
     let within : place < length entries = rw (length-map clusters (λ (x : Cluster). x.entry)) lt in
     let made : c ≡ g c.entry =
     ap (λ (cs : List Cluster). get_or cs place d) is ∙ (get_or-map g entries place d.entry d within ∙ ap g (get_or-map (λ (x : Cluster). x.entry) clusters place d d.entry lt)) in
-    let sound = indexed.sound place d lt in
     let agree : (a : List ℕ) → Contains (users_at users a) place → state_in s a ≡ state_in r a = λ a reads. differ a (λ has. unread a has reads) in
     let o : Option (Pair TreeFacts) = option_and_then trees_of (cluster_named c.entry.name before) in
     let stays = state_stays users place last now r s c.entry.state o c.state le agree (ap (λ (x : Cluster). x.state) made) sound.0 sound.1 on in
@@ -231,7 +244,7 @@ unread_stays users changed last now r s clusters before indexed is differ place 
 pub others_stay : (users : UserList) (changed : List (List ℕ)) (marks : List Bool) (last now : Time) (r s : Reports) (clusters before : List Cluster) → AreIndexed users clusters → MarksUsers users changed marks → length marks ≡ length clusters →
     clusters ≡ clusters_after last r (entries_of clusters) before → DifferAt changed r s → OthersStay last now s marks clusters
 others_stay users changed marks last now r s clusters before indexed marked long is differ = λ place d lt unmarked on le.
-    unread_stays users changed last now r s clusters before indexed is differ place d lt
+    unread_stays users changed last now r s clusters before is differ place d lt (indexed.sound place d lt)
     (λ a has reads. (let clash : true ≡ false = sym (marked a place has reads (omega (arith, long, lt))) ∙ unmarked in cc)) on le
 
 pub record IsNotDue (marked quiet : Bool) (now last : ℕ) : Type 0 where

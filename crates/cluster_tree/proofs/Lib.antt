@@ -6,3 +6,4 @@ pub mod MergeLemmas
 pub mod TimerLemmas
 pub mod StepLemmas
 pub mod ViewLemmas
+pub mod EntryLemmas

@@ -1,6 +1,6 @@
 -- Clusters before and after an update, side by side in the order of their names.
 use Rattle.std.proofs.Common.{◌≡◌, ◌<◌, ◌≤◌, ◌+◌, ◌||◌, ℕ, suc, Bool, true, false, cond, List, [], ◌∷◌, ◌++◌, length, take, get_or, Option, Some, None, Result, Ok, Err, ◌⊎◌, inl, inr, refl, sym, ap, ◌∙◌, subst, arith}
-use Rattle.std.specs.Prelude.{All, AllPairs, IfOk, IfSome, bytes_eq, find, not, nat_lt, option_map, ◌==◌, slice_get}
+use Rattle.std.specs.Prelude.{All, AllPairs, IfOk, IfSome, bytes_eq, find, not, nat_lt, ◌==◌, slice_get}
 use Rattle.std.specs.Ordering.{nat_cmp, is_eq, ordering_reverse}
 use Rattle.std.specs.declared.cmp.Ordering.{Ordering}
 use Rattle.std.specs.declared.cmp.Ordering.TheVariants.{Less, Equal, Greater}
@@ -20,7 +20,7 @@ use Rattle.cluster_tree.specs.declared.cluster_trees.Standing.{Standing}
 use Rattle.tree_steps.specs.Reports.{Reports}
 use Rattle.tree_steps.specs.Users.{UserList, ReadsLeaves}
 use Rattle.cluster_tree.specs.StandingTrees.{cluster_after, cluster_named, clusters_after, stands_in}
-use Rattle.cluster_tree.specs.ClusterUsers.{AreRising, IsReached, AreReadIn, AreReadBut, AreIndexed, EntriesStay, OthersStay, StandBut, IsSound, StaysUnmarked}
+use Rattle.cluster_tree.specs.ClusterUsers.{AreRising, IsReached, AreReadIn, AreReadBut, AreIndexed, OthersStay, StandBut, IsSound, StaysUnmarked}
 use Rattle.cluster_tree.proofs.ForestLemmas.{find_first, names_differ, not_due}
 
 -- ---- the cluster of a name stands at the place that is reached, if anywhere
@@ -97,74 +97,6 @@ found_other clusters place c name rising reached is other =
 pub found_none : (clusters : List Cluster) (place : ℕ) (name : List ℕ) → AreRising clusters → IsReached clusters name place → slice_get clusters place ≡ None → None ≡ cluster_named name clusters
 found_none clusters place name rising reached is =
     sym (named_nowhere clusters place name rising reached (λ d lt. (let clash : Some (get_or clusters place d) ≡ None = sym (slice_get-get_or clusters place d lt) ∙ is in absurd (cc))))
-
--- ---- an entry without a mark
-
-entry_at : (entries : List ClusterEntry) (place : ℕ) (entry : ClusterEntry) → place < length entries → entry ≡ get_or entries place entry → slice_get entries place ≡ Some entry
-entry_at entries place entry lt is = slice_get-get_or entries place entry lt ∙ ap (λ (x : ClusterEntry). let o : Option ClusterEntry = Some x in o) (sym is)
-
-unmarked_off : (mark : Bool) → not mark ≡ true → mark ≡ false
-unmarked_off true is = absurd (cc is)
-unmarked_off false is = refl
-
--- it has the name of the cluster that stood at its place
-pub known_name : (marks : List Bool) (old : List Cluster) (entries : List ClusterEntry) (place : ℕ) (entry : ClusterEntry) → EntriesStay marks old entries → place < length entries → entry ≡ get_or entries place entry →
-    not (get_or marks place false) ≡ true → option_map (λ c. c.entry.name) (slice_get old place) ≡ Some entry.name
-known_name marks old entries place entry stay lt is known = by (slice_get old place) (stay place entry (entry_at entries place entry lt is) (unmarked_off (get_or marks place false) known))
-  where
-    by : (o : Option Cluster) → option_map (λ c. c.entry) o ≡ Some entry → option_map (λ c. c.entry.name) o ≡ Some entry.name
-    by None none = absurd (cc none)
-    by (Some c) same = ap (option_map (λ (e : ClusterEntry). e.name)) same
-
--- it is that of the cluster that stood at its place
-pub known_entry : (marks : List Bool) (old : List Cluster) (entries : List ClusterEntry) (from place : ℕ) (entry : ClusterEntry) (before : Option Cluster) → EntriesStay marks old entries → place < length entries → entry ≡ get_or entries place entry →
-    IfSome before (λ c. (from < length old) × (get_or old from c ≡ c)) → from ≡ place → not (get_or marks place false) ≡ true → IfSome before (λ c. c.entry ≡ entry)
-known_entry marks old entries from place entry None stay lt is at own known = tt
-known_entry marks old entries from place entry (Some c) stay lt is (within, at) own known =
-    let here : slice_get old place ≡ Some c = subst (λ (n : ℕ). slice_get old n ≡ Some c) own (slice_get-get_or old from c within ∙ ap (λ (x : Cluster). let o : Option Cluster = Some x in o) at) in
-    let same : Some c.entry ≡ Some entry = sym (ap (option_map (λ (x : Cluster). x.entry)) here) ∙ stay place entry (entry_at entries place entry lt is) (unmarked_off (get_or marks place false) known) in
-    same_entry c.entry entry same
-  where
-    same_entry : (a b : ClusterEntry) → Some a ≡ Some b → a ≡ b
-    same_entry a b is = cc
-
--- ---- a cluster that is known to stand at a place
-
-itself_behind : (name : List ℕ) → IsNameBefore name name → ⊥
-itself_behind name before = absurd (let clash : true ≡ false = sym ((bytes_eq-Decides name name).1 refl) ∙ names_differ name name before in cc)
-
-name_there : (clusters : List Cluster) (place : ℕ) (name : List ℕ) (d : Cluster) → place < length clusters → option_map (λ c. c.entry.name) (slice_get clusters place) ≡ Some name → (get_or clusters place d).entry.name ≡ name
-name_there clusters place name d lt known = same_name (get_or clusters place d).entry.name name (ap (option_map (λ (c : Cluster). c.entry.name)) (sym (slice_get-get_or clusters place d lt)) ∙ known)
-  where
-    same_name : (a b : List ℕ) → Some a ≡ Some b → a ≡ b
-    same_name a b is = cc
-
-some_there : (clusters : List Cluster) (place : ℕ) (name : List ℕ) → option_map (λ c. c.entry.name) (slice_get clusters place) ≡ Some name → place < length clusters
-some_there clusters place name known = by (slice_get clusters place) refl known
-  where
-    by : (o : Option Cluster) → slice_get clusters place ≡ o → option_map (λ c. c.entry.name) o ≡ Some name → place < length clusters
-    by None is none = absurd (cc none)
-    by (Some c) is same = slice_get_within clusters place c is
-
-pub known_reached : (clusters : List Cluster) (place : ℕ) (name : List ℕ) → AreRising clusters → option_map (λ c. c.entry.name) (slice_get clusters place) ≡ Some name → IsReached clusters name place
-known_reached clusters place name rising known =
-    let lt : place < length clusters = some_there clusters place name known in
-    record {
-      within = omega (arith, lt);
-      passed = λ k d less. subst (λ (n : List ℕ). IsNameBefore (get_or clusters k d).entry.name n) (name_there clusters place name d lt known) (rising k place d less lt);
-      stops = λ d less before. itself_behind name (subst (λ (n : List ℕ). IsNameBefore n name) (name_there clusters place name d lt known) before);
-    }
-
-pub known_named : (clusters : List Cluster) (place : ℕ) (name : List ℕ) → AreRising clusters → option_map (λ c. c.entry.name) (slice_get clusters place) ≡ Some name → slice_get clusters place ≡ cluster_named name clusters
-known_named clusters place name rising known = by (slice_get clusters place) refl
-  where
-    by : (o : Option Cluster) → slice_get clusters place ≡ o → slice_get clusters place ≡ cluster_named name clusters
-    by None is = absurd (let clash : option_map (λ (c : Cluster). c.entry.name) None ≡ Some name = ap (option_map (λ (c : Cluster). c.entry.name)) (sym is) ∙ known in cc clash)
-    by (Some c) is = is ∙ found_here clusters place c name (known_reached clusters place name rising known) is (ap (λ (x : Cluster). x.entry.name) (sym (some_at clusters place c c is)) ∙ name_there clusters place name c (slice_get_within clusters place c is) known)
-
-pub stands_here : (clusters : List Cluster) (place : ℕ) (found : Option Cluster) → found ≡ slice_get clusters place → IfSome found (λ c. (place < length clusters) × (get_or clusters place c ≡ c))
-stands_here clusters place None is = tt
-stands_here clusters place (Some c) is = (slice_get_within clusters place c (sym is), some_at clusters place c c (sym is))
 
 -- ---- the loop that passes the clusters in front of a name
 

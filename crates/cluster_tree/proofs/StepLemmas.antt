@@ -1,5 +1,5 @@
 -- Clusters that take an update in their places, one after another.
-use Rattle.std.proofs.Common.{◌≡◌, ◌<◌, ◌≤◌, ◌&&◌, ℕ, Bool, true, false, cond, List, [], ◌∷◌, length, get_or, set, map, Some, ◌⊎◌, inl, inr, refl, sym, ap, ◌∙◌, subst, arith}
+use Rattle.std.proofs.Common.{◌≡◌, ◌<◌, ◌≤◌, ◌&&◌, ℕ, Bool, true, false, cond, List, [], ◌∷◌, length, get_or, set, map, replicate, Some, ◌⊎◌, inl, inr, refl, sym, ap, ◌∙◌, subst, arith}
 use Rattle.std.specs.Prelude.{All, IfOk, if◌then◌else◌, not}
 use Rattle.std.specs.declared.cmp.Ordering.{Ordering}
 use Rattle.std.specs.declared.cmp.Ordering.TheVariants.{Less, Equal, Greater}
@@ -9,22 +9,23 @@ use Rattle.std.proofs.lemmas.Bool.{cases_eq, cases_lt}
 use Rattle.std.proofs.lemmas.Cmp.{eq_by_cmp_equiv, nat_cmp_total}
 use Rattle.std.proofs.lemmas.Map.Keys.{le_from_not_gt}
 use Rattle.std.proofs.lemmas.Map.Lookups.{exact_unsigned}
-use Rattle.std.proofs.lemmas.List.{get_or-map, get_or-set_other, get_or-set_same, get_or_default, length-map, length-set, same_lists}
+use Rattle.std.proofs.lemmas.List.{get_or-map, get_or-set_other, get_or-set_same, get_or_default, get_or-replicate, get_or_past, length-map, length-replicate, length-set, same_lists}
 use Rattle.xc_base.specs.declared.names.Time.{Time}
 use Rattle.xds_config.specs.Configs.{AreLawfulLeaves}
 use Rattle.tree_timers.specs.declared.timer_ends.TimerEnd.{TimerEnd}
-use Rattle.tree_timers.specs.EndsKept.{Ends, HasEnd}
+use Rattle.tree_timers.specs.EndsKept.{Ends, HasEnd, HasPlace}
 use Rattle.tree_steps.specs.Reports.{Reports}
 use Rattle.tree_steps.specs.Users.{UserList}
 use Rattle.cluster_tree.specs.declared.cluster_trees.Cluster.{Cluster}
 use Rattle.cluster_tree.specs.declared.cluster_steps.InPlace.{InPlace}
-use Rattle.cluster_tree.specs.StandingTrees.{Forest, ChangesAt, clusters_after, entries_of}
-use Rattle.cluster_tree.specs.ClusterUsers.{AreIndexed, AreStepped}
-use Rattle.cluster_tree.specs.ClusterTimers.{AreLeft, AreSteppedAt, AreTimed, AreTimedBut, IsSteppedAt, IsTimed, is_due_at, stepped}
+use Rattle.cluster_tree.specs.StandingTrees.{Forest, clusters_after, entries_of, stands_in}
+use Rattle.cluster_tree.specs.ClusterUsers.{AreIndexed, AreStepped, IsSound, StandBut}
+use Rattle.cluster_tree.specs.PutEntries.{ChangesBut}
+use Rattle.cluster_tree.specs.ClusterTimers.{AreDueMarked, AreLeft, AreSteppedAt, AreTimed, AreTimedBut, IsSteppedAt, IsTimed, is_due_at, stepped}
 use Rattle.cluster_tree.specs.ViewChanges.{seen_of, IsChangeMark, MarkChangesInPlace}
 use Rattle.cluster_tree.proofs.ForestLemmas.{steps_are, unread_stays}
 use Rattle.cluster_tree.proofs.ChangeLemmas.{still_mark}
-use Rattle.cluster_tree.proofs.TimerLemmas.{kept_timed}
+use Rattle.cluster_tree.proofs.TimerLemmas.{kept_timed, not_there}
 
 -- ---- the least place is taken out
 
@@ -73,9 +74,9 @@ behind due left place other loses least there = by (cases_lt place other)
 -- ---- one cluster takes the update
 
 pub step_made : (now : Time) (reports : Reports) (place : ℕ) (old new : InPlace) (x next : Cluster) (mark : Bool) → place < length old.clusters.items → length old.changed ≡ length old.clusters.items → x ≡ get_or old.clusters.items place x →
-    next ≡ stepped now reports x → IsChangeMark mark (Some (seen_of x)) (seen_of next) → new.clusters.items ≡ set old.clusters.items place next → new.changed ≡ set old.changed place mark → IsTimed new.ends place next →
+    next ≡ stepped now reports x → IsChangeMark mark (Some (seen_of x)) (seen_of next) → new.clusters.items ≡ set old.clusters.items place next → new.changed ≡ set old.changed place mark → new.anew ≡ set old.anew place true → IsTimed new.ends place next →
     ((end : TimerEnd) → HasEnd old.ends end → HasEnd new.ends end) → IsSteppedAt now reports place old new
-step_made now reports place old new x next mark lt long is made marks put set_is timed kept =
+step_made now reports place old new x next mark lt long is made marks put set_is anew_is timed kept =
     let among : place < length old.changed = omega (arith, lt, long) in
     let own : (d : Cluster) → get_or new.clusters.items place d ≡ next = λ d. ap (λ (cs : List Cluster). get_or cs place d) put ∙ get_or-set_same old.clusters.items place next d lt in
     let was : (d : Cluster) → x ≡ get_or old.clusters.items place d = λ d. is ∙ get_or_default old.clusters.items place x d lt in
@@ -89,6 +90,7 @@ step_made now reports place old new x next mark lt long is made marks put set_is
           (subst (λ (c : Cluster). IsChangeMark (get_or new.changed place false) (Some (seen_of x)) (seen_of c)) (sym (own d))
           (subst (λ (b : Bool). IsChangeMark b (Some (seen_of x)) (seen_of next)) (sym (ap (λ (ms : List Bool). get_or ms place false) set_is ∙ get_or-set_same old.changed place mark false among)) marks));
       other_marks = λ other differ. ap (λ (ms : List Bool). get_or ms other false) set_is ∙ get_or-set_other old.changed place other mark false differ;
+      anew = anew_is;
       timed = λ d. subst (λ (c : Cluster). IsTimed new.ends place c) (sym (own d)) timed;
       ends = kept;
     }
@@ -105,6 +107,10 @@ pub record AreSteppedBut (now : Time) (reports : Reports) (first due : BTreeSet 
       get_or new.clusters.items place d ≡ (if was_taken first due place then stepped now reports (get_or old.clusters.items place d) else get_or old.clusters.items place d)
   pub changed : MarkChangesInPlace new.changed old.clusters.items new.clusters.items
   pub marked : (place later : ℕ) → get_or new.changed place false ≡ true → is_due_at due later ≡ true → place < later
+  pub anew_count : length new.anew ≡ length new.clusters.items
+  pub anew : (place later : ℕ) → get_or new.anew place false ≡ true → is_due_at due later ≡ true → place < later
+  pub taken : (place : ℕ) → place < length old.clusters.items → was_taken first due place ≡ true → get_or new.anew place false ≡ true
+  pub stand : (place : ℕ) (d : Cluster) → get_or new.anew place false ≡ false → get_or new.clusters.items place d ≡ get_or old.clusters.items place d
   pub timed : AreTimedBut due new.ends new.clusters.items
   pub lawful : All (λ c. IfOk c.entry.state AreLawfulLeaves) new.clusters.items
 
@@ -112,17 +118,30 @@ neither_taken : (b : Bool) → (b && not b) ≡ false
 neither_taken true = refl
 neither_taken false = refl
 
-pub steps_begin : (now : Time) (reports : Reports) (due : BTreeSet ℕ) (old : InPlace) → length old.changed ≡ length old.clusters.items → ((place : ℕ) → get_or old.changed place false ≡ false) → AreTimedBut due old.ends old.clusters.items →
+-- no mark is set
+pub none_marked : (marks : List Bool) (count : ℕ) → marks ≡ replicate count false → (place : ℕ) → get_or marks place false ≡ false
+none_marked marks count is place = ap (λ (ms : List Bool). get_or ms place false) is ∙ by (cases_lt place count)
+  where
+    by : (place < count) ⊎ (count ≤ place) → get_or (replicate count false) place false ≡ false
+    by (inl less) = get_or-replicate count place false false less
+    by (inr le) = get_or_past (replicate count false) place false (subst (λ (n : ℕ). n ≤ place) (sym (length-replicate count false)) le)
+
+pub steps_begin : (now : Time) (reports : Reports) (due : BTreeSet ℕ) (old : InPlace) → old.changed ≡ replicate (length old.clusters.items) false → old.anew ≡ replicate (length old.clusters.items) false → AreTimedBut due old.ends old.clusters.items →
     All (λ c. IfOk c.entry.state AreLawfulLeaves) old.clusters.items → AreSteppedBut now reports due due old old
-steps_begin now reports due old long unmarked timed lawful = record {
+steps_begin now reports due old unchanged fresh timed lawful = record {
   count = refl;
   among = λ place there. there;
   each = λ place d lt. sym (ap (λ (b : Bool). if b then stepped now reports (get_or old.clusters.items place d) else get_or old.clusters.items place d) (neither_taken (is_due_at due place)));
   changed = record {
-    count = long;
-    each = λ place d lt. subst (λ (b : Bool). IsChangeMark b (Some (seen_of (get_or old.clusters.items place d))) (seen_of (get_or old.clusters.items place d))) (sym (unmarked place)) (still_mark (get_or old.clusters.items place d));
+    count = ap (λ (ms : List Bool). length ms) unchanged ∙ length-replicate (length old.clusters.items) false;
+    each = λ place d lt. subst (λ (b : Bool). IsChangeMark b (Some (seen_of (get_or old.clusters.items place d))) (seen_of (get_or old.clusters.items place d)))
+        (sym (none_marked old.changed (length old.clusters.items) unchanged place)) (still_mark (get_or old.clusters.items place d));
   };
-  marked = λ place later on there. (let clash : true ≡ false = sym on ∙ unmarked place in absurd (cc clash));
+  marked = λ place later on there. (let clash : true ≡ false = sym on ∙ none_marked old.changed (length old.clusters.items) unchanged place in absurd (cc clash));
+  anew_count = ap (λ (ms : List Bool). length ms) fresh ∙ length-replicate (length old.clusters.items) false;
+  anew = λ place later on there. (let clash : true ≡ false = sym on ∙ none_marked old.anew (length old.clusters.items) fresh place in absurd (cc clash));
+  taken = λ place lt took. (let clash : true ≡ false = sym took ∙ neither_taken (is_due_at due place) in absurd (cc clash));
+  stand = λ place d off. refl;
   timed = timed;
   lawful = lawful;
 }
@@ -135,6 +154,14 @@ none_behind now reports first due old new place are there later le = by (get_or 
     by false is = refl
     by true is = let before = are.marked later place is there in absurd (omega (arith, before, le))
 
+-- nor is one anew
+pub none_anew : (now : Time) (reports : Reports) (first due : BTreeSet ℕ) (old new : InPlace) (place : ℕ) → AreSteppedBut now reports first due old new → is_due_at due place ≡ true → (later : ℕ) → place ≤ later → get_or new.anew later false ≡ false
+none_anew now reports first due old new place are there later le = by (get_or new.anew later false) refl
+  where
+    by : (mark : Bool) → get_or new.anew later false ≡ mark → mark ≡ false
+    by false is = refl
+    by true is = let before = are.anew later place is there in absurd (omega (arith, before, le))
+
 -- a place where no cluster stands
 pub steps_past : (now : Time) (reports : Reports) (first due left : BTreeSet ℕ) (old new : InPlace) (place : ℕ) → Loses due left place → length new.clusters.items ≤ place → AreSteppedBut now reports first due old new → AreSteppedBut now reports first left old new
 steps_past now reports first due left old new place loses past are = record {
@@ -146,6 +173,12 @@ steps_past now reports first due left old new place loses past are = record {
       (sym (left_alike due left place other loses (λ same. absurd (omega (arith, same, lt, count, past)))));
   changed = are.changed;
   marked = λ other later on there. are.marked other later on (still_due due left place later loses there);
+  anew_count = are.anew_count;
+  anew = λ other later on there. are.anew other later on (still_due due left place later loses there);
+  taken = λ other lt took.
+      let count = are.count in
+      are.taken other lt (ap (λ (b : Bool). is_due_at first other && not b) (sym (left_alike due left place other loses (λ same. absurd (omega (arith, same, lt, count, past))))) ∙ took);
+  stand = are.stand;
   timed = λ other d lt off. are.timed other d lt (sym (left_alike due left place other loses (λ same. absurd (omega (arith, same, lt, past)))) ∙ off);
   lawful = are.lawful;
 }
@@ -189,6 +222,29 @@ module _ (now : Time) (reports : Reports) (first due left : BTreeSet ℕ) (old m
       let less = behind due left place later loses (least later (still_due due left place later loses due_later)) due_later in omega (arith, less, same)
   marked_at other later on due_later (inr differ) = are.marked other later (sym (step.other_marks other differ) ∙ on) (still_due due left place later loses due_later)
 
+  -- it is marked as anew
+  anew_here : get_or new.anew place false ≡ true
+  anew_here =
+      let long = are.anew_count in
+      ap (λ (ms : List Bool). get_or ms place false) step.anew ∙ get_or-set_same mid.anew place true false (omega (arith, lt, long))
+
+  anew_there : (other : ℕ) → (other ≡ place → ⊥) → get_or new.anew other false ≡ get_or mid.anew other false
+  anew_there other differ = ap (λ (ms : List Bool). get_or ms other false) step.anew ∙ get_or-set_other mid.anew place other true false differ
+
+  anew_at : (other later : ℕ) → get_or new.anew other false ≡ true → is_due_at left later ≡ true → (other ≡ place) ⊎ (other ≡ place → ⊥) → other < later
+  anew_at other later on due_later (inl same) =
+      let less = behind due left place later loses (least later (still_due due left place later loses due_later)) due_later in omega (arith, less, same)
+  anew_at other later on due_later (inr differ) = are.anew other later (sym (anew_there other differ) ∙ on) (still_due due left place later loses due_later)
+
+  taken_at : (other : ℕ) → other < length old.clusters.items → was_taken first left other ≡ true → (other ≡ place) ⊎ (other ≡ place → ⊥) → get_or new.anew other false ≡ true
+  taken_at other within took (inl same) = ap (λ (n : ℕ). get_or new.anew n false) same ∙ anew_here
+  taken_at other within took (inr differ) =
+      anew_there other differ ∙ are.taken other within (ap (λ (b : Bool). is_due_at first other && not b) (sym (left_alike due left place other loses differ)) ∙ took)
+
+  stand_at : (other : ℕ) (d : Cluster) → get_or new.anew other false ≡ false → (other ≡ place) ⊎ (other ≡ place → ⊥) → get_or new.clusters.items other d ≡ get_or old.clusters.items other d
+  stand_at other d off (inl same) = absurd (let clash : true ≡ false = sym anew_here ∙ (ap (λ (n : ℕ). get_or new.anew n false) (sym same) ∙ off) in cc clash)
+  stand_at other d off (inr differ) = step.others other d differ ∙ are.stand other d (sym (anew_there other differ) ∙ off)
+
   timed_at : (other : ℕ) (d : Cluster) → other < length new.clusters.items → is_due_at left other ≡ false → (other ≡ place) ⊎ (other ≡ place → ⊥) → IsTimed new.ends other (get_or new.clusters.items other d)
   timed_at other d within off (inl same) = subst (λ (n : ℕ). IsTimed new.ends n (get_or new.clusters.items n d)) (sym same) (step.timed d)
   timed_at other d within off (inr differ) =
@@ -211,6 +267,10 @@ module _ (now : Time) (reports : Reports) (first due left : BTreeSet ℕ) (old m
     each = λ other d within. each_at other d within (cases_eq other place);
     changed = record { count = step.marks ∙ (are.changed.count ∙ sym step.count); each = λ other d within. changed_at other d within (cases_eq other place) };
     marked = λ other later on still. marked_at other later on still (cases_eq other place);
+    anew_count = ap (λ (ms : List Bool). length ms) step.anew ∙ (length-set mid.anew place true ∙ (are.anew_count ∙ sym step.count));
+    anew = λ other later on still. anew_at other later on still (cases_eq other place);
+    taken = λ other within took. taken_at other within took (cases_eq other place);
+    stand = λ other d off. stand_at other d off (cases_eq other place);
     timed = λ other d within off. timed_at other d within off (cases_eq other place);
     lawful = λ other d within. lawful_at other d within (cases_eq other place);
   }
@@ -236,6 +296,18 @@ steps_end now reports first due old new none are = record {
       ∙ (ap (λ (b : Bool). if (is_due_at first place && not b) then stepped now reports (get_or old.clusters.items place d) else get_or old.clusters.items place d) (none place)
       ∙ ap (λ (b : Bool). if b then stepped now reports (get_or old.clusters.items place d) else get_or old.clusters.items place d) (taken (is_due_at first place)));
 }
+
+pub stand_end : (now : Time) (reports : Reports) (first due : BTreeSet ℕ) (old new : InPlace) → AreSteppedBut now reports first due old new → StandBut new.anew old.clusters.items new.clusters.items
+stand_end now reports first due old new are = record {
+  count = are.anew_count;
+  each = λ place d lt off. let count = are.count in (omega (arith, lt, count), are.stand place d off);
+}
+
+pub due_end : (now : Time) (reports : Reports) (first due : BTreeSet ℕ) (old new : InPlace) → ((place : ℕ) → is_due_at due place ≡ false) → AreSteppedBut now reports first due old new → AreDueMarked first new.anew
+due_end now reports first due old new none are place lt there =
+    let count = are.count in
+    let long = are.anew_count in
+    are.taken place (omega (arith, lt, count, long)) (ap (λ (b : Bool). b && not (is_due_at due place)) there ∙ ap (λ (b : Bool). not b) (none place))
 
 pub timed_end : (due : BTreeSet ℕ) (ends : Ends) (clusters : List Cluster) → ((place : ℕ) → is_due_at due place ≡ false) → AreTimedBut due ends clusters → AreTimed ends clusters
 timed_end due ends clusters none timed place d lt = timed place d lt (none place)
@@ -269,10 +341,24 @@ all_stepped now reports due old new steps others =
         steps.each place d within ∙ (by place d within (is_due_at due place) refl ∙ sym (get_or-map (stepped now reports) old place d d within))
 
 -- so they are those of the next forest
-pub all_took : (users : UserList) (changed : List (List ℕ)) (now : Time) (s : Reports) (due : BTreeSet ℕ) (forest : Forest) (new : List Cluster) → AreIndexed users forest.clusters → ChangesAt changed s forest →
-    AreLeft forest.now now users changed due forest.clusters → AreSteppedAt now s due forest.clusters new → new ≡ clusters_after now s (entries_of forest.clusters) forest.clusters
-all_took users changed now s due forest new indexed asked left steps =
-    all_stepped now s due forest.clusters new steps (λ place d lt off.
-    let other = left place d lt off in
-    unread_stays users changed forest.now now asked.0 s forest.clusters asked.1.0 indexed asked.1.1 asked.2 place d lt other.unread other.stands other.goes_on)
-    ∙ steps_are now s forest.clusters indexed.rising
+pub all_took : (users : UserList) (put : List Bool) (changed : List (List ℕ)) (now : Time) (s : Reports) (due : BTreeSet ℕ) (forest : Forest) (new : List Cluster) → AreIndexed users forest.clusters → ChangesBut put changed s forest →
+    ((place : ℕ) → get_or put place false ≡ true → HasPlace due place) → AreLeft forest.now now users changed due forest.clusters → AreSteppedAt now s due forest.clusters new → new ≡ clusters_after now s (entries_of forest.clusters) forest.clusters
+all_took users put changed now s due forest new indexed asked among left steps =
+    all_stepped now s due forest.clusters new steps (λ place d lt off. stays place d lt off) ∙ steps_are now s forest.clusters indexed.rising
+  where
+    unput : (place : ℕ) → is_due_at due place ≡ false → get_or put place false ≡ false
+    unput place off = by (get_or put place false) refl
+      where
+        by : (mark : Bool) → get_or put place false ≡ mark → mark ≡ false
+        by false is = refl
+        by true is = absurd (not_there due place off (among place is))
+
+    stays : (place : ℕ) (d : Cluster) → place < length forest.clusters → is_due_at due place ≡ false → stepped now s (get_or forest.clusters place d) ≡ get_or forest.clusters place d
+    stays place d lt off =
+        let same = asked.stand.each place d lt (unput place off) in
+        let other = left place d lt off in
+        let changes = asked.changes in
+        subst (λ (c : Cluster). stepped now s c ≡ c) (sym same.1)
+        (unread_stays users changed asked.before.now now changes.0 s asked.before.clusters changes.1.0 changes.1.1 changes.2 place d same.0
+        (subst (λ (c : Cluster). IsSound users place c) same.1 (indexed.sound place d lt)) other.unread (subst (λ (c : Cluster). stands_in now c.state ≡ true) same.1 other.stands)
+        (subst (λ (t : Time). t.0 ≤ now.0) (sym asked.now_is) other.goes_on))

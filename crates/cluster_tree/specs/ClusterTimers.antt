@@ -1,5 +1,5 @@
 -- Which clusters have timers that run, which are due at an update, and what the update makes of them.
-use Rattle.std.specs.Prelude.{◌≡◌, ◌<◌, ◌≤◌, ◌^◌, ℕ, Bool, true, false, if◌then◌else◌, List, length, get_or, Contains, Result, Some}
+use Rattle.std.specs.Prelude.{◌≡◌, ◌<◌, ◌≤◌, ◌^◌, ℕ, Bool, true, false, if◌then◌else◌, List, length, get_or, set, Contains, Result, Some}
 use Rattle.std.specs.Ordering.{nat_cmp}
 use Rattle.std.specs.BTreeSet.{BTreeSet, contains}
 use Rattle.xc_base.specs.declared.names.Time.{Time}
@@ -54,6 +54,10 @@ AreLeft last now users changed due clusters = (place : ℕ) (d : Cluster) → pl
 abbrev pub AreTimedBut : BTreeSet ℕ → Ends → List Cluster → Type 0
 AreTimedBut due ends clusters = (place : ℕ) (d : Cluster) → place < length clusters → is_due_at due place ≡ false → IsTimed ends place (get_or clusters place d)
 
+-- each cluster that is due has a mark
+abbrev pub AreDueMarked : BTreeSet ℕ → List Bool → Type 0
+AreDueMarked due marks = (place : ℕ) → place < length marks → is_due_at due place ≡ true → get_or marks place false ≡ true
+
 -- a cluster that took an update
 abbrev pub stepped : Time → Reports → Cluster → Cluster
 stepped now reports cluster = cluster_after now reports cluster.entry (Some cluster)
@@ -66,6 +70,7 @@ pub record IsSteppedAt (now : Time) (reports : Reports) (place : ℕ) (old new :
   pub marks : length new.changed ≡ length old.changed
   pub mark : (d : Cluster) → IsChangeMark (get_or new.changed place false) (Some (seen_of (get_or old.clusters.items place d))) (seen_of (get_or new.clusters.items place d))
   pub other_marks : (other : ℕ) → (other ≡ place → ⊥) → get_or new.changed other false ≡ get_or old.changed other false
+  pub anew : new.anew ≡ set old.anew place true
   pub timed : (d : Cluster) → IsTimed new.ends place (get_or new.clusters.items place d)
   pub ends : (end : TimerEnd) → HasEnd old.ends end → HasEnd new.ends end
 

@@ -3,3 +3,4 @@ pub mod ClusterUsers
 pub mod ViewChanges
 pub mod ClusterTimers
 pub mod KeptViews
+pub mod PutEntries

@@ -1,5 +1,5 @@
 //! Clusters before and after an update, side by side in the order of their names.
-ghost use Rattle.std.specs.Prelude.{◌≡◌, ◌<◌, ◌≤◌, ◌++◌, ◌∷◌, ◌↔◌, ◌||◌, ◌^◌, ℕ, [], length, get_or, slice_get, option_map, true, false, Some, not, nat_lt, IsTrue, IfOk, IfSome, OnOk};
+ghost use Rattle.std.specs.Prelude.{◌≡◌, ◌<◌, ◌≤◌, ◌++◌, ◌∷◌, ◌↔◌, ◌||◌, ◌^◌, ℕ, [], length, get_or, option_map, true, false, Some, not, nat_lt, IsTrue, IfOk, IfSome, OnOk};
 ghost use Rattle.xds_config.specs.Configs.{AreLawfulLeaves, IsNameBefore};
 ghost use Rattle.cluster_tree.specs.declared.cluster_trees.Cluster.{Cluster as ClusterValue};
 ghost use Rattle.cluster_tree.specs.StandingTrees.{cluster_after, cluster_named, stands_in};
@@ -28,17 +28,6 @@ pub(crate) struct Turn {
     pub(crate) times: Times,
     /// Whether the cluster reads an address whose state changed.
     pub(crate) marked: bool,
-    /// Whether its entry is known to be the same as before.
-    pub(crate) is_known: bool,
-}
-
-/// Which clusters may not stay as they are.
-#[derive(Clone, Copy)]
-pub(crate) struct Others<'a> {
-    /// For each cluster from before, whether it reads an address whose state changed.
-    pub(crate) readers: &'a [bool],
-    /// For each entry of the configuration, whether it may be another one than stood at its place.
-    pub(crate) entries: &'a [bool],
 }
 
 /// The clusters of a configuration after an update.
@@ -126,7 +115,7 @@ pub(crate) struct Found<'a> {
 }
 
 /// The cluster of a name, among those from a place on.
-fn find_behind<'a>(clusters: &'a [Cluster], from: usize, name: &Text) -> Found<'a>
+pub(crate) fn find_cluster<'a>(clusters: &'a [Cluster], from: usize, name: &Text) -> Found<'a>
     requires rising { AreRising clusters.now }
     requires within { from ≤ length clusters.now }
     requires passed { (k : ℕ) (d : ClusterValue) → k < from → IsNameBefore (get_or clusters.now k d).entry.name name.now }
@@ -138,40 +127,6 @@ fn find_behind<'a>(clusters: &'a [Cluster], from: usize, name: &Text) -> Found<'
     Found {
         place,
         cluster: named_at(clusters, place, name),
-    }
-}
-
-/// The cluster at a place.
-fn cluster_at(clusters: &[Cluster], place: usize) -> Option<&Cluster>
-    ensures { option_map (λ r. r.now) result ≡ slice_get clusters.now place }
-{
-    clusters.get(place)
-}
-
-/// The cluster of a name, among those from a place on. Where it is known to stand at `own`, no names are compared.
-pub(crate) fn find_cluster<'a>(
-    clusters: &'a [Cluster],
-    from: usize,
-    name: &Text,
-    own: usize,
-    is_known: bool,
-) -> Found<'a>
-    requires rising { AreRising clusters.now }
-    requires within { from ≤ length clusters.now }
-    requires passed { (k : ℕ) (d : ClusterValue) → k < from → IsNameBefore (get_or clusters.now k d).entry.name name.now }
-    requires known { is_known ≡ true → option_map (λ c. c.entry.name) (slice_get clusters.now own) ≡ Some name.now }
-    ensures reached { IsReached clusters.now name.now result.place }
-    ensures named { option_map (λ r. r.now) result.cluster ≡ cluster_named name.now clusters.now }
-    ensures here { IfSome (option_map (λ r. r.now) result.cluster) (λ c. (result.place < length clusters.now) × (get_or clusters.now result.place c ≡ c)) }
-    ensures own { is_known ≡ true → result.place ≡ own }
-{
-    if is_known {
-        Found {
-            place: own,
-            cluster: cluster_at(clusters, own),
-        }
-    } else {
-        find_behind(clusters, from, name)
     }
 }
 
@@ -194,11 +149,10 @@ fn is_due(cluster: &Cluster, turn: Turn) -> bool
 
 /// Whether a cluster stays as it is: its entry does, and it doesn't have to take the update.
 fn stays(cluster: &Cluster, entry: &ClusterEntry, turn: Turn) -> bool
-    requires { turn.is_known ≡ true → cluster.now.entry ≡ entry.now }
     ensures due { result ≡ true → (turn.marked || not (stands_in turn.times.this cluster.now.state) || nat_lt turn.times.this.0 turn.times.last.0) ≡ false }
     ensures same { result ≡ true → cluster.now.entry ≡ entry.now }
 {
-    !is_due(cluster, turn) && (turn.is_known || cluster.entry.get().same(entry))
+    !is_due(cluster, turn) && cluster.entry.get().same(entry)
 }
 
 /// A cluster that stays as it is.
@@ -214,7 +168,7 @@ fn same_cluster(cluster: &Cluster) -> Result<NextCluster, Memory>
 }
 
 /// The cluster of an entry after an update, or want of memory. It is made anew only where the entry isn't the same as
-/// before, or the cluster has to take the update. Entries are compared where nothing is known of them.
+/// before, or the cluster has to take the update.
 pub(crate) fn next_cluster(
     alloc: Global,
     reports: &BTreeMap<Address, State>,
@@ -224,7 +178,6 @@ pub(crate) fn next_cluster(
 ) -> Result<NextCluster, Memory>
     requires lawful { IfOk entry.now.state AreLawfulLeaves }
     requires unmarked { IfSome (option_map (λ r. r.now) before) (λ c. StaysUnmarked turn.times.last turn.times.this reports.now.entries turn.marked c) }
-    requires known { turn.is_known ≡ true → IfSome (option_map (λ r. r.now) before) (λ c. c.entry ≡ entry.now) }
     ensures changed { IfOk result (λ next. IsChangeMark next.changed (option_map seen_of (option_map (λ r. r.now) before.entry)) (seen_of next.cluster)) }
     ensures cluster { IfOk result (λ next. next.cluster ≡ cluster_after turn.times.this reports.now.entries entry.now (option_map (λ r. r.now) before.entry)) }
     ensures anew { IfOk result (λ next. next.anew ≡ false → option_map (λ r. r.now) before.entry ≡ Some next.cluster) }

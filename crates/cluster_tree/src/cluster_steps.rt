@@ -1,8 +1,9 @@
 //! Clusters that take an update in their places.
-ghost use Rattle.std.specs.Prelude.{◌≡◌, ◌<◌, ◌≤◌, ℕ, length, get_or, set, false, All, IfOk, OnOk, Some};
+ghost use Rattle.std.specs.Prelude.{◌≡◌, ◌<◌, ◌≤◌, ℕ, length, get_or, set, replicate, false, All, IfOk, OnOk, Some};
 ghost use Rattle.xds_config.specs.Configs.{AreLawfulLeaves};
 ghost use Rattle.cluster_tree.specs.StandingTrees.{cluster_after};
-ghost use Rattle.cluster_tree.specs.ClusterTimers.{AreSteppedAt, AreTimed, AreTimedBut, IsSteppedAt};
+ghost use Rattle.cluster_tree.specs.ClusterTimers.{AreDueMarked, AreSteppedAt, AreTimed, AreTimedBut, IsSteppedAt};
+ghost use Rattle.cluster_tree.specs.ClusterUsers.{StandBut};
 ghost use Rattle.cluster_tree.specs.ViewChanges.{seen_of, IsChangeMark, MarkChangesInPlace};
 
 use crate::cluster_timers::add_end;
@@ -21,6 +22,8 @@ pub(crate) struct InPlace {
     pub(crate) ends: TimerEnds,
     /// For each cluster, whether what is seen of it differs from before.
     pub(crate) changed: Marks,
+    /// For each cluster, whether it took the update.
+    pub(crate) anew: Marks,
 }
 
 /// A cluster that stays in the configuration, after an update.
@@ -50,7 +53,7 @@ fn set_mark(marks: &mut Marks, place: u32, mark: bool) -> Result<(), Memory>
 }
 
 /// Puts a cluster in its place.
-fn put_cluster(clusters: &mut Vec<Cluster>, place: usize, next: Cluster)
+pub(crate) fn put_cluster(clusters: &mut Vec<Cluster>, place: usize, next: Cluster)
     requires { place < length clusters.old.items }
     ensures { clusters.new.items ≡ set clusters.old.items place next }
 {
@@ -68,13 +71,16 @@ impl InPlace {
     ) -> Result<(), Memory>
         requires within { place < length self.old.clusters.items }
         requires count { length self.old.changed ≡ length self.old.clusters.items }
+        requires anew_count { length self.old.anew ≡ length self.old.clusters.items }
         requires lawful { All (λ c. IfOk c.entry.state AreLawfulLeaves) self.old.clusters.items }
         requires last { (later : ℕ) → place ≤ later → get_or self.old.changed later false ≡ false }
+        requires last_anew { (later : ℕ) → place ≤ later → get_or self.old.anew later false ≡ false }
         ensures { OnOk result (IsSteppedAt now reports.now.entries place self.old self.new) }
     {
         let next = step_cluster(alloc, reports, now, &self.clusters[place as usize])?;
         add_end(&mut self.ends, &next.cluster, place)?;
         set_mark(&mut self.changed, place, next.changed)?;
+        self.anew.mark(place)?;
         put_cluster(&mut self.clusters, place as usize, next.cluster);
         Ok(())
     }
@@ -89,12 +95,14 @@ pub(crate) fn step_clusters(
     mut due: BTreeSet<u32>,
     stepped: &mut InPlace,
 ) -> Result<(), Memory>
-    requires count { length stepped.old.changed ≡ length stepped.old.clusters.items }
+    requires changed { stepped.old.changed ≡ replicate (length stepped.old.clusters.items) false }
+    requires anew { stepped.old.anew ≡ replicate (length stepped.old.clusters.items) false }
     requires lawful { All (λ c. IfOk c.entry.state AreLawfulLeaves) stepped.old.clusters.items }
-    requires unmarked { (place : ℕ) → get_or stepped.old.changed place false ≡ false }
     requires timed { AreTimedBut due stepped.old.ends stepped.old.clusters.items }
     ensures clusters { OnOk result (AreSteppedAt now reports.now.entries due stepped.old.clusters.items stepped.new.clusters.items) }
     ensures changed { OnOk result (MarkChangesInPlace stepped.new.changed stepped.old.clusters.items stepped.new.clusters.items) }
+    ensures anew { OnOk result (StandBut stepped.new.anew stepped.old.clusters.items stepped.new.clusters.items) }
+    ensures due { OnOk result (AreDueMarked due stepped.new.anew) }
     ensures timed { OnOk result (AreTimed stepped.new.ends stepped.new.clusters.items) }
 {
     while let Some(place) = due.pop_first() {

@@ -1,5 +1,5 @@
 //! When timers of clusters' trees end, and which clusters are due at an update.
-ghost use Rattle.std.specs.Prelude.{◌≡◌, ◌<◌, ◌^◌, ℕ, List, length, get_or, false, Contains, IfOk, OnOk};
+ghost use Rattle.std.specs.Prelude.{◌≡◌, ◌<◌, ◌^◌, ℕ, List, length, get_or, true, false, Contains, IfOk, OnOk};
 ghost use Rattle.cluster_tree.specs.declared.cluster_trees.Cluster.{Cluster as ClusterValue};
 ghost use Rattle.cluster_tree.specs.StandingTrees.{stands_in, until_in};
 ghost use Rattle.cluster_tree.specs.ClusterTimers.{AreLeft, AreTimed, AreTimedBut, IsTimed};
@@ -113,19 +113,22 @@ impl ClusterIndex {
         }
     }
 
-    /// The places of the clusters that have to take an update: those that read an address whose state changed, and those of which
-    /// a timer has ended. Where time goes back, or is the last of all times, they are all due. The ends that have come are taken out.
+    /// The places of the clusters that have to take an update: those that read an address whose state changed, those of which
+    /// a timer has ended, and those that stand for other entries than before. Where time goes back, or is the last of all times, they are all due. The ends that have come are taken out.
     pub(crate) fn due_places(
         &mut self,
         alloc: Global,
         times: Times,
         changed: &[Address],
+        put: &Marks,
         clusters: &[Cluster],
     ) -> Result<BTreeSet<u32>, Memory>
+        requires count { length put.now ≡ length clusters.now }
         requires few { length clusters.now < 2 ^ 31 }
         requires timed { AreTimed self.old.ends clusters.now }
         ensures users { self.new.users ≡ self.old.users }
         ensures left { IfOk result (λ due. AreLeft times.last times.this self.old.users changed.now due clusters.now) }
+        ensures put { IfOk result (λ due. (place : ℕ) → get_or put.now place false ≡ true → HasPlace due place) }
         ensures timed { IfOk result (λ due. AreTimedBut due self.new.ends clusters.now) }
     {
         if times.this.0 < times.last.0 || times.this.0 == u64::MAX {
@@ -133,6 +136,7 @@ impl ClusterIndex {
         }
         let mut due = BTreeSet::new(alloc);
         add_readers(&mut due, &self.users, changed)?;
+        add_places(&mut due, put.places())?;
         self.ends.take_due(times.this, &mut due)?;
         Ok(due)
     }

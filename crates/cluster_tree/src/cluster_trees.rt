@@ -4,6 +4,7 @@ ghost use Rattle.std.specs.Option.{option_and_then};
 ghost use Rattle.xds_config.specs.Configs.{AreLawfulLeaves};
 ghost use Rattle.cluster_tree.specs.StandingTrees.{standing, trees_of, cluster_after, view_in};
 ghost use Rattle.cluster_tree.specs.ClusterUsers.{FollowsEntry};
+ghost use Rattle.cluster_tree.specs.PutEntries.{with_entry};
 ghost use Rattle.cluster_tree.specs.ViewChanges.{seen_of, tree_view_of, IsChangeMark, served_localities};
 ghost use Rattle.tree_steps.specs.Users.{Grows, ReadsLeaves};
 ghost use Rattle.tree_steps.specs.TreeSteps.{trees_after};
@@ -206,7 +207,14 @@ pub(crate) fn cluster_after(
 pub(crate) fn share_cluster(cluster: &Cluster) -> Result<Cluster, Memory>
     ensures { IfOk result (λ c. c ≡ cluster.now) }
 {
-    let entry = cluster.entry.share()?;
+    with_entry(cluster, &cluster.entry)
+}
+
+/// A cluster that stands for an entry, and shares the trees of another cluster.
+pub(crate) fn with_entry(cluster: &Cluster, entry: &Shared<ClusterEntry>) -> Result<Cluster, Memory>
+    ensures { IfOk result (λ c. c ≡ with_entry entry.now cluster.now) }
+{
+    let entry = entry.share()?;
     match &cluster.state {
         Ok(standing) => {
             let standing = standing.share()?;
@@ -256,7 +264,7 @@ pub(crate) fn add_users(users: &mut Users, cluster: &Cluster, place: u32) -> Res
 }
 
 /// Adds a cluster to those that read the addresses of the configuration's leaves.
-fn add_entry(users: &mut Users, entry: &ClusterEntry, place: u32) -> Result<(), Memory>
+pub(crate) fn add_entry(users: &mut Users, entry: &ClusterEntry, place: u32) -> Result<(), Memory>
     ensures grows { OnOk result (Grows users.old users.new) }
     ensures entry { OnOk result (IfOk entry.now.state (λ leaves. ReadsLeaves users.new place leaves.leaves)) }
 {

@@ -1,6 +1,7 @@
 //! The balancers of each cluster as one tree, and the snapshots of them (gRFC A37, A56, A74).
 #![tactic(auto)]
 
+pub(crate) mod cluster_entries;
 pub(crate) mod cluster_merge;
 pub(crate) mod cluster_steps;
 pub(crate) mod cluster_timers;
@@ -13,4 +14,4 @@ pub mod trees;
 
 pub use snapshot::Snapshot;
 pub use tree_steps::{NamedChild, TreeView};
-pub use trees::{FollowedViews, Trees, UpdatedViews};
+pub use trees::{FollowedViews, NextConfig, Trees, UpdatedViews};

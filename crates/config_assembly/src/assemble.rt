@@ -17,6 +17,7 @@ use crate::reach::{children_of, endpoint_name};
 use crate::sight::Sight;
 use crate::table::Table;
 use aggregate_expand::{ExpandFault, leaves};
+use block_list::in_blocks;
 use std::alloc::AllocError;
 use std::sync::ledger::Ledger;
 use xc_base::{Kind, List, Memory, Reason, Shared, Steps, Text};
@@ -189,6 +190,6 @@ pub fn config<L: Ledger>(
         return Err(AllocError);
     }
     let entries = entries(sight, names, table, steps)?;
-    let clusters = Clusters::from_list(entries);
+    let clusters = Clusters::from_blocks(in_blocks(sight.alloc, entries)?);
     Ok(Shared::new(sight.alloc, Config { front, clusters })?)
 }

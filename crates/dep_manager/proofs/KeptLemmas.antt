@@ -1,8 +1,6 @@
 -- What is kept, and what an update comes to by it.
 use Rattle.std.proofs.Common.{◌≡◌, ℕ, ◌+◌, ◌≤◌, arith, Bool, true, false, Option, Some, None, Result, Ok, Err, List, [], ◌∷◌, ◌++◌, map, refl, sym, ap, ◌∙◌, subst, is_some}
 use Rattle.std.specs.Prelude.{Contains, IfSome, IsSome, IsSomeAnd, if◌then◌else◌, option_map, unwrap_or}
-use Rattle.std.specs.declared.alloc.Global.{Global}
-use Rattle.std.specs.declared.vec.Vec.{Vec}
 use Rattle.xc_keys.proofs.MemberLemmas.{from_mapped}
 use Rattle.xc_base.specs.declared.names.Home.{Home}
 use Rattle.xc_base.specs.declared.names.Kind.{Kind}
@@ -59,7 +57,7 @@ module _ (r : Resources) (reached : List Key) (kept : Kept) (is : IsAssembledOf 
   lawful_if None lawful = lawful
   lawful_if (Some key) lawful = tt
 
-  pub outcome_by : (stays : Bool) (marks : Vec Bool Global) → IsLawfulConfig kept.config → IsOutcomeBy r kept.references (outcome_of reached stays kept marks)
+  pub outcome_by : (stays : Bool) (marks : List Bool) → IsLawfulConfig kept.config → IsOutcomeBy r kept.references (outcome_of reached stays kept marks)
   outcome_by stays marks lawful = record {
     reached_are = is.reached_are;
     missing_is = least_is;
@@ -174,14 +172,14 @@ pub was_last : (result taken last : Option Kept) → taken ≡ last → IfSome r
 was_last None taken last same is = tt
 was_last (Some kept) taken last same is = sym same ∙ is
 
-pub stood_last : (result last : Option Kept) (shown : Option Config) → IfSome result (λ kept. last ≡ Some kept) → IfSome last (λ kept. StandAsShown kept.others.items shown kept.config) →
-    IfSome result (λ kept. StandAsShown kept.others.items shown kept.config)
+pub stood_last : (result last : Option Kept) (shown : Option Config) → IfSome result (λ kept. last ≡ Some kept) → IfSome last (λ kept. StandAsShown kept.others shown kept.config) →
+    IfSome result (λ kept. StandAsShown kept.others shown kept.config)
 stood_last None last shown is stand = tt
-stood_last (Some kept) last shown is stand = subst (λ o. IfSome o (λ k. StandAsShown k.others.items shown k.config)) is stand
+stood_last (Some kept) last shown is stand = subst (λ o. IfSome o (λ k. StandAsShown k.others shown k.config)) is stand
 
 -- ---- what is kept, with other marks
 
-kept_again : (entries : List AuthorityEntry) (known : Watched) (target : Target) (reached : List Key) (kept : Kept) (marks : Vec Bool Global) → IsKeptOf entries known target reached kept → IsKeptOf entries known target reached (kept_with kept marks)
+kept_again : (entries : List AuthorityEntry) (known : Watched) (target : Target) (reached : List Key) (kept : Kept) (marks : List Bool) → IsKeptOf entries known target reached kept → IsKeptOf entries known target reached (kept_with kept marks)
 kept_again entries known target reached kept marks is = record {
   assembled = record {
     reached_are = is.assembled.reached_are;

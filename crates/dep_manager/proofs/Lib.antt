@@ -1,6 +1,7 @@
 pub mod ChainLemmas
 pub mod DecideLemmas
 pub mod KeptLemmas
+pub mod MarkSetLemmas
 pub mod NewsLemmas
 pub mod PairLemmas
 pub mod PlaceLemmas
@@ -8,3 +9,4 @@ pub mod ReachSteps
 pub mod RenewLemmas
 pub mod ShownLemmas
 pub mod SortedKeys
+pub mod ToldLemmas

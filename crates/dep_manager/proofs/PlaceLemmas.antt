@@ -1,11 +1,12 @@
 -- At the places of which clusters leaves have a key.
-use Rattle.std.proofs.Common.{◌≡◌, ℕ, zero, suc, ◌+◌, ◌<◌, ◌==◌, arith, refl, sym, ap, ap₂, ◌∙◌, List, [], ◌∷◌, ◌++◌, length, get_or, take, map, Bool, true, false, ◌||◌, cond, Option, Some, None}
-use Rattle.std.specs.Prelude.{◌&&◌, All, unwrap_or}
+use Rattle.std.proofs.Common.{◌≡◌, ℕ, zero, suc, ◌+◌, ◌<◌, ◌==◌, arith, refl, sym, ap, ap₂, ◌∙◌, subst, List, [], ◌∷◌, ◌++◌, length, get_or, take, map, Bool, true, false, ◌||◌, cond, Option, Some, None}
+use Rattle.std.specs.Prelude.{◌&&◌, All, slice_get, unwrap_or}
 use Rattle.std.specs.List.{list_any}
 use Rattle.std.specs.Map.{keys_of, lookup}
 use Rattle.std.specs.Option.{option_map_or}
 use Rattle.std.proofs.lemmas.Bool.{true≢false}
-use Rattle.std.proofs.lemmas.List.{ext_get_or, length-map, length-take-le, take_more}
+use Rattle.std.proofs.lemmas.List.{ext_get_or, length-map, length-take-le, map-append, take_more}
+use Rattle.std.proofs.lemmas.Option.{get_or_from_slice_get, slice_get_within}
 use Rattle.std.proofs.lemmas.List.Folds.{list_any-append, list_any_at}
 use Rattle.std.proofs.lemmas.Map.Made.{is_some-lookup}
 use Rattle.std.proofs.Math.Dec.{eqb-suc-suc, eqb-suc-zero, eqb-zero-suc}
@@ -148,23 +149,32 @@ or_assoc false b c = refl
 
 -- the places that are marked already, and those that the keys that are left lead to
 pub marks_next : (marks new : List Bool) (places : List ℕ) (key : Key) (before left : List Key) (sources : Sources) (all : ℕ → Bool) → before ≡ key ∷ left →
-    ((at : ℕ) → get_or new at false ≡ (get_or marks at false || has_place places at)) → ((at : ℕ) → has_place places at ≡ has_leaf sources key at) →
-    ((at : ℕ) → (get_or marks at false || has_any before sources at) ≡ all at) → (at : ℕ) → (get_or new at false || has_any left sources at) ≡ all at
-marks_next marks new places key before left sources all first set listed kept at =
-    ap (λ b. b || has_any left sources at) (set at ∙ ap (λ b. get_or marks at false || b) (listed at))
+    ((at : ℕ) → at < length marks → get_or new at false ≡ (get_or marks at false || has_place places at)) → ((at : ℕ) → has_place places at ≡ has_leaf sources key at) → length new ≡ length marks →
+    ((at : ℕ) → at < length marks → (get_or marks at false || has_any before sources at) ≡ all at) → (at : ℕ) → at < length new → (get_or new at false || has_any left sources at) ≡ all at
+marks_next marks new places key before left sources all first set listed long kept at less =
+    let lt : at < length marks = subst (λ n. at < n) long less in
+    ap (λ b. b || has_any left sources at) (set at lt ∙ ap (λ b. get_or marks at false || b) (listed at))
     ∙ or_assoc (get_or marks at false) (has_leaf sources key at) (has_any left sources at)
     ∙ ap (λ b. get_or marks at false || b) (sym (any_of_more key left (get_or sources at [])))
     ∙ ap (λ keys. get_or marks at false || has_any keys sources at) (sym first)
-    ∙ kept at
+    ∙ kept at lt
 
 pub marks_all : (told : Told) (marks : List Bool) (sources : Sources) (left : List Key) → length marks ≡ length sources → left ≡ [] →
-    ((at : ℕ) → (get_or marks at false || has_any left sources at) ≡ has_any (keys_of told) sources at) → marks ≡ map (list_any (is_told told)) sources
+    ((at : ℕ) → at < length marks → (get_or marks at false || has_any left sources at) ≡ has_any (keys_of told) sources at) → marks ≡ map (list_any (is_told told)) sources
 marks_all told marks sources left long none kept =
-    let each : (at : ℕ) → get_or marks at false ≡ list_any (is_told told) (get_or sources at []) = λ at.
+    let each : (at : ℕ) → at < length marks → get_or marks at false ≡ list_any (is_told told) (get_or sources at []) = λ at lt.
     sym (or_none (get_or marks at false))
     ∙ ap (λ b. get_or marks at false || b) (sym (any_of_none (get_or sources at [])))
     ∙ ap (λ keys. get_or marks at false || has_any keys sources at) (sym none)
-    ∙ kept at
+    ∙ kept at lt
     ∙ sym (any_told told (get_or sources at [])) in
     ext_get_or false marks (map (list_any (is_told told)) sources) (long ∙ sym (length-map sources (list_any (is_told told))))
-    (λ at lt. each at ∙ sym (get_or-map (list_any (is_told told)) sources at []))
+    (λ at lt. each at lt ∙ sym (get_or-map (list_any (is_told told)) sources at []))
+
+-- ---- what is made of each member in turn
+
+pub mapped_next : {X Y : Type 0} (f : X → Y) (xs : List X) (ys new : List Y) (i : ℕ) (x : X) (y : Y) → slice_get xs i ≡ Some x → y ≡ f x → new ≡ ys ++ y ∷ [] → ys ≡ map f (take i xs) → new ≡ map f (take (i + 1) xs)
+mapped_next f xs ys new i x y here made grown kept =
+    grown ∙ ap₂ (λ before z. before ++ z ∷ []) kept (made ∙ ap f (sym (get_or_from_slice_get xs i x x here)))
+    ∙ sym (map-append f (take i xs) (get_or xs i x ∷ []))
+    ∙ ap (map f) (sym (take_more xs i x (slice_get_within xs i x here)))

@@ -1,6 +1,6 @@
 -- Which entries stand as they were shown.
 use Rattle.std.proofs.Common.{◌≡◌, ℕ, zero, suc, arith, Bool, true, false, ◌||◌, Option, Some, None, List, [], ◌∷◌, map, length, get_or, replicate, refl, sym, ap, ◌∙◌, subst, slice_get}
-use Rattle.std.specs.Prelude.{IfSome, if◌then◌else◌, option_and_then}
+use Rattle.std.specs.Prelude.{IfSome, not, if◌then◌else◌, option_and_then}
 use Rattle.std.specs.Option.{option_or}
 use Rattle.std.specs.List.{list_any}
 use Rattle.std.proofs.lemmas.Bool.{true≢false}
@@ -44,16 +44,16 @@ pub stand_left : (least : Option Key) (marks left : List Bool) (shown : Option C
 stand_left None marks left shown config is stand = subst (λ ms. StandAsShown ms (Some config) config) (sym is) (none_marked marks config stand.count)
 stand_left (Some key) marks left shown config is stand = subst (λ ms. StandAsShown ms shown config) (sym is) stand
 
-pub stand_kept : (reached : List Key) (stays : Bool) (made kept : Kept) (o : Outcome) (shown : Option Config) → o ≡ outcome_of reached stays made o.others → kept ≡ kept_with made kept.others → kept.others.items ≡ marks_left o.missing made.others.items →
-    StandAsShown made.others.items shown made.config → StandAsShown kept.others.items (option_or o.config shown) kept.config
+pub stand_kept : (reached : List Key) (stays : Bool) (made kept : Kept) (o : Outcome) (shown : Option Config) → o ≡ outcome_of reached stays made o.others → kept ≡ kept_with made kept.others → kept.others ≡ marks_left o.missing made.others →
+    StandAsShown made.others shown made.config → StandAsShown kept.others (option_or o.config shown) kept.config
 stand_kept reached stays made kept o shown is same left stand =
     let config : o.config ≡ config_if o.missing made.config = ap (λ out. out.config) is ∙ ap (λ least. config_if least made.config) (sym (ap (λ out. out.missing) is)) in
-    subst (λ c. StandAsShown kept.others.items (option_or o.config shown) c) (sym (ap (λ k. k.config) same))
-    (subst (λ handed. StandAsShown kept.others.items (option_or handed shown) made.config) (sym config) (stand_left o.missing made.others.items kept.others.items shown made.config left stand))
+    subst (λ c. StandAsShown kept.others (option_or o.config shown) c) (sym (ap (λ k. k.config) same))
+    (subst (λ handed. StandAsShown kept.others (option_or handed shown) made.config) (sym config) (stand_left o.missing made.others kept.others shown made.config left stand))
 
 -- ---- once endpoints changed
 
-neither : (a b : Bool) → (a || b) ≡ false → (a ≡ false) × (b ≡ false)
+pub neither : (a b : Bool) → (a || b) ≡ false → (a ≡ false) × (b ≡ false)
 neither true b is = absurd (true≢false is)
 neither false b is = (refl, is)
 
@@ -61,7 +61,7 @@ module _ (told : Told) where
   abbrev touched : List (Option Key) → Bool
   touched keys = list_any (is_told told) keys
 
-  untouched : (entry : ClusterEntry) (keys : List (Option Key)) (b : Bool) → b ≡ false → (if b then record { name = entry.name; state = renewed_state told entry.state keys } else entry) ≡ entry
+  pub untouched : (entry : ClusterEntry) (keys : List (Option Key)) (b : Bool) → b ≡ false → (if b then record { name = entry.name; state = renewed_state told entry.state keys } else entry) ≡ entry
   untouched entry keys true off = absurd (true≢false off)
   untouched entry keys false off = refl
 
@@ -122,6 +122,14 @@ untold_cluster (key ∷ keys) = ap (λ b. b || list_any (is_told []) keys) (unto
 pub nothing_told : (sources : List (List (Option Key))) → list_any (list_any (is_told [])) sources ≡ false
 nothing_told [] = refl
 nothing_told (keys ∷ sources) = ap (λ b. b || list_any (list_any (is_told [])) sources) (untold_cluster keys) ∙ nothing_told sources
+
+pub none_if : (none any : Bool) → none ≡ not any → none ≡ true → any ≡ false
+none_if none true is says = absurd (true≢false (sym says ∙ is))
+none_if none false is says = refl
+
+pub some_if : (none any : Bool) → none ≡ not any → none ≡ false → any ≡ true
+some_if none true is says = refl
+some_if none false is says = absurd (true≢false (sym is ∙ says))
 
 -- ---- what is made of a configuration, whether anything is told of it or not
 

@@ -1,7 +1,5 @@
 -- What is kept from one update to the next, and when it is right.
 use Rattle.std.specs.Prelude.{◌≡◌, Bool, List, [], ◌∷◌, filter, map, false, Option, None, Some, Result, Ok, Err, IfSome, is_some, option_map, unwrap_or}
-use Rattle.std.specs.declared.alloc.Global.{Global}
-use Rattle.std.specs.declared.vec.Vec.{Vec}
 use Rattle.xc_base.specs.declared.names.Kind.{Kind}
 use Rattle.xc_base.specs.declared.names.Key.{Key}
 use Rattle.xc_base.specs.declared.reason.Reason.{Reason}
@@ -43,7 +41,7 @@ config_if None config = Some config
 config_if (Some key) config = None
 
 -- the same with these marks
-abbrev pub kept_with : Kept → Vec Bool Global → Kept
+abbrev pub kept_with : Kept → List Bool → Kept
 kept_with kept marks = record { references = kept.references; awaited = kept.awaited; config = kept.config; sources = kept.sources; others = marks }
 
 -- what is kept was made of what is known here

@@ -5,3 +5,4 @@ pub mod LeafPlaces
 pub mod UpdateOutcomes
 pub mod RenewedConfigs
 pub mod ShownEntries
+pub mod ToldPlaces

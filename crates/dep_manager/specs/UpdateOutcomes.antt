@@ -1,7 +1,5 @@
 -- What an update comes to.
 use Rattle.std.specs.Prelude.{◌≡◌, ◌↔◌, Bool, List, IfSome, IsNone, IsSome}
-use Rattle.std.specs.declared.alloc.Global.{Global}
-use Rattle.std.specs.declared.vec.Vec.{Vec}
 use Rattle.xc_base.specs.declared.names.Key.{Key}
 use Rattle.xds_config.specs.Configs.{IsLawfulConfig}
 use Rattle.config_assembly.specs.Orders.{Name}
@@ -13,7 +11,7 @@ use Rattle.dep_manager.specs.declared.deps.Outcome.{Outcome}
 use Rattle.dep_manager.specs.KeptAssemblies.{config_if, least_of}
 
 -- by the keys that were reached, whether they are known to be those of the update before, and what was made, with these marks
-abbrev pub outcome_of : List Key → Bool → Kept → Vec Bool Global → Outcome
+abbrev pub outcome_of : List Key → Bool → Kept → List Bool → Outcome
 outcome_of reached stays kept marks = record { reached = reached; missing = least_of kept.awaited.keys; config = config_if (least_of kept.awaited.keys) kept.config; others = marks; stays = stays }
 
 -- by what is known, where these are the clusters to which calls refer

@@ -23,6 +23,7 @@ ghost use Rattle.dep_manager.specs.declared.kept_assembly.Kept.{Kept as KeptValu
 use crate::kept_assembly::{Kept, assembly_of, last_to_follow, renew};
 use config_assembly::watching::watch_reached;
 use config_assembly::{SharedKeys, Sight};
+use place_marks::Marks;
 use std::alloc::Global;
 use std::marker::Model;
 use std::sync::ledger::Ledger;
@@ -43,7 +44,7 @@ pub struct Outcome {
     pub config: Option<Shared<Config>>,
     /// For each of its clusters, whether its entry may be another one than the one that stood at its place in the
     /// configuration that was handed out last before this one. It is empty where there is no configuration.
-    pub others: Vec<bool>,
+    pub others: Marks,
     /// Whether the keys that are reached are known to be those that the update before reached.
     pub stays: bool,
 }
@@ -69,7 +70,7 @@ impl Model for Deps {
 
     ghost view = { λ d. record { target = d.target; reached = d.reached; last = d.last; shown = d.shown } };
 
-    ghost invariant = { λ d. (d.target.key.kind ≡ ListenerKind) × IfSome d.last (λ kept. StandAsShown kept.others.items d.shown kept.config) };
+    ghost invariant = { λ d. (d.target.key.kind ≡ ListenerKind) × IfSome d.last (λ kept. StandAsShown kept.others d.shown kept.config) };
 }
 
 /// What an update comes to that reached these keys, which may be known to be those of the update before, and made this. Where a
@@ -81,9 +82,9 @@ fn outcome_of(
     kept: &mut Kept,
 ) -> Result<Outcome, Memory>
     ensures outcome { IfOk result (λ o. o ≡ outcome_of reached stays kept.old o.others) }
-    ensures others { IfOk result (λ o. o.others.items ≡ marks_if o.missing kept.old.others.items) }
+    ensures others { IfOk result (λ o. o.others ≡ marks_if o.missing kept.old.others) }
     ensures kept { kept.new ≡ kept_with kept.old kept.new.others }
-    ensures left { IfOk result (λ o. kept.new.others.items ≡ marks_left o.missing kept.old.others.items) }
+    ensures left { IfOk result (λ o. kept.new.others ≡ marks_left o.missing kept.old.others) }
 {
     let missing = kept.least()?;
     let config = kept.config_if(&missing)?;
@@ -121,9 +122,9 @@ impl Deps {
         stays: bool,
         made: Kept,
     ) -> Result<Outcome, Memory>
-        requires { StandAsShown made.others.items self.old.shown made.config }
+        requires { StandAsShown made.others self.old.shown made.config }
         ensures outcome { IfOk result (λ o. o ≡ outcome_of reached stays made o.others) }
-        ensures others { IfOk result (λ o. IfSome o.config (λ config. StandAsShown o.others.items self.old.shown config)) }
+        ensures others { IfOk result (λ o. IfSome o.config (λ config. StandAsShown o.others self.old.shown config)) }
         ensures shown { IfOk result (λ o. self.new.shown ≡ option_or o.config self.old.shown) }
         ensures held { (self.new.target ≡ self.old.target) × (self.new.reached ≡ self.old.reached) }
         ensures kept { OnOk result (IsSomeAnd self.new.last (λ kept. kept ≡ kept_with made kept.others)) }
@@ -142,7 +143,7 @@ impl Deps {
     fn take_last(&mut self, changed: &[Key], references: &List<Text>) -> Option<Kept>
         ensures rest { self.new ≡ record { target = self.old.target; reached = self.old.reached; last = None; shown = self.old.shown } }
         ensures kept { IfSome result (λ kept. self.old.last ≡ Some kept) }
-        ensures stands { IfSome result (λ kept. StandAsShown kept.others.items self.old.shown kept.config) }
+        ensures stands { IfSome result (λ kept. StandAsShown kept.others self.old.shown kept.config) }
         ensures references { IfSome result (λ kept. references.now ≡ kept.references) }
         ensures endpoints { IfSome result (λ kept. are_endpoints changed.now ≡ true) }
         ensures some { (kept : KeptValue) → self.old.last ≡ Some kept → references.now ≡ kept.references → are_endpoints changed.now ≡ true → result ≡ Some kept }
@@ -160,13 +161,13 @@ impl Deps {
         steps: &mut Steps<L>,
     ) -> Result<Outcome, Memory>
         requires endpoints { are_endpoints changed.now ≡ true }
-        requires stands { StandAsShown last.others.items self.old.shown last.config }
+        requires stands { StandAsShown last.others self.old.shown last.config }
         ensures outcome { IfOk result (λ o. (entries : List AuthorityValue) (known : Watched) → IsKeptOf entries known self.old.target self.old.reached last → AreChanges known cache.now changed.now → IsOutcomeBy (resources self.old.target entries cache.now) last.references o) }
         ensures watched { IfOk result (λ o. (entries : List AuthorityValue) (known : Watched) → IsKeptOf entries known self.old.target self.old.reached last → AreChanges known cache.now changed.now → IsWatching cache.now cache.now o.reached) }
         ensures kept { IfOk result (λ o. (entries : List AuthorityValue) (known : Watched) → IsKeptOf entries known self.old.target self.old.reached last → AreChanges known cache.now changed.now → IsRightBy entries cache.now self.new) }
         ensures held { IfOk result (λ o. (self.new.target ≡ self.old.target) × (self.new.reached ≡ o.reached)) }
         ensures stays { IfOk result (λ o. (o.stays ≡ true) × (o.reached ≡ self.old.reached)) }
-        ensures others { IfOk result (λ o. IfSome o.config (λ config. StandAsShown o.others.items self.old.shown config)) }
+        ensures others { IfOk result (λ o. IfSome o.config (λ config. StandAsShown o.others self.old.shown config)) }
         ensures shown { IfOk result (λ o. self.new.shown ≡ option_or o.config self.old.shown) }
         ensures cost { steps.new ≤ steps.old + length changed.now }
         ensures rises { steps.old ≤ steps.new }
@@ -192,7 +193,7 @@ impl Deps {
         ensures kept { IfOk result (λ o. IsRightBy boot.now.authorities cache.new self.new) }
         ensures held { IfOk result (λ o. (self.new.target ≡ self.old.target) × (self.new.reached ≡ o.reached)) }
         ensures stays { IfOk result (λ o. o.stays ≡ false) }
-        ensures others { IfOk result (λ o. IfSome o.config (λ config. StandAsShown o.others.items self.old.shown config)) }
+        ensures others { IfOk result (λ o. IfSome o.config (λ config. StandAsShown o.others self.old.shown config)) }
         ensures shown { IfOk result (λ o. self.new.shown ≡ option_or o.config self.old.shown) }
     {
         let sight = Sight {
@@ -242,7 +243,7 @@ impl Deps {
         ensures watched { IfOk result (λ o. IsWatching cache.old cache.new o.reached) }
         ensures held { IfOk result (λ o. (self.new.target ≡ self.old.target) × (self.new.reached ≡ o.reached)) }
         ensures stays { IfOk result (λ o. o.stays ≡ true → o.reached ≡ self.old.reached) }
-        ensures others { IfOk result (λ o. IfSome o.config (λ config. StandAsShown o.others.items self.old.shown config)) }
+        ensures others { IfOk result (λ o. IfSome o.config (λ config. StandAsShown o.others self.old.shown config)) }
         ensures shown { IfOk result (λ o. self.new.shown ≡ option_or o.config self.old.shown) }
         ensures kept { IfOk result (λ o. IsRightBy boot.now.authorities cache.new self.new) }
         ensures still { (last : KeptValue) → self.old.last ≡ Some last → references.now ≡ last.references → changed.now ≡ [] → steps.new ≡ steps.old }

@@ -22,10 +22,12 @@ ghost use Rattle.dep_manager.specs.declared.kept_assembly.Kept.{Kept as KeptValu
 use crate::config_renewal::renewed_config;
 use crate::endpoint_news::{are_endpoints, awaited_of, news_of};
 use crate::leaf_sources::{LeafSources, sources_of_all};
+use crate::mark_sets::MarkSet;
 use config_assembly::assemble::config;
 use config_assembly::front::front;
 use config_assembly::reach::{on_chains, reached_keys, roots};
 use config_assembly::{Sight, Table};
+use place_marks::Marks;
 use std::alloc::Global;
 use std::collections::BTreeSet;
 use std::mem;
@@ -47,7 +49,7 @@ pub struct Kept {
     pub sources: LeafSources,
     /// For each of its clusters, whether its entry may be another one than the one that stood at its place in the
     /// configuration that was handed out last.
-    pub others: Vec<bool>,
+    pub others: MarkSet,
 }
 
 /// What an update reached, and what it made.
@@ -119,7 +121,7 @@ pub fn assembly_of<L: Ledger>(
     ensures assembled { IfOk result (λ made. IsAssembledOf (seen sight.entry) made.reached made.kept) }
     ensures references { IfOk result (λ made. made.kept.references ≡ references.now) }
     ensures lawful { IfOk result (λ made. IsLawfulConfig made.kept.config) }
-    ensures marked { IfOk result (λ made. made.kept.others.items ≡ replicate (length made.kept.config.clusters) true) }
+    ensures marked { IfOk result (λ made. made.kept.others ≡ replicate (length made.kept.config.clusters) true) }
 {
     let front = front(sight, steps)?;
     let roots = roots(sight, &front, references)?;
@@ -128,9 +130,9 @@ pub fn assembly_of<L: Ledger>(
     let awaited = awaited_of(sight.alloc, sight.cache, reached.as_slice(), steps)?;
     let names = ClusterNames { roots, on_chains };
     let config = config_with(sight, front, &names, steps)?;
-    let sources = sources_of_all(sight, config.get().clusters.as_slice(), steps)?;
+    let sources = sources_of_all(sight, &config.get().clusters, steps)?;
     let references = copy_names(sight.alloc, references)?;
-    let others = vec![in sight.alloc; true; config.get().clusters.len()]?;
+    let others = MarkSet::all(sight.alloc, config.get().clusters.len())?;
     let kept = Kept {
         references,
         awaited,
@@ -172,7 +174,7 @@ pub fn renew<L: Ledger>(
     requires { are_endpoints changed.now ≡ true }
     ensures kept { IfOk result (λ kept. (entries : List AuthorityValue) (known : Watched) (target : TargetValue) (reached : List KeyValue) → target.key.kind ≡ ListenerKind → IsKeptOf entries known target reached last → AreChanges known cache.now changed.now → IsKeptOf entries cache.now target reached kept) }
     ensures references { IfOk result (λ kept. kept.references ≡ last.references) }
-    ensures stands { IfOk result (λ kept. (shown : Option ConfigValue) → StandAsShown last.others.items shown last.config → StandAsShown kept.others.items shown kept.config) }
+    ensures stands { IfOk result (λ kept. (shown : Option ConfigValue) → StandAsShown last.others shown last.config → StandAsShown kept.others shown kept.config) }
     ensures cost { steps.new ≤ steps.old + length changed.now }
     ensures rises { steps.old ≤ steps.new }
 {
@@ -218,15 +220,15 @@ impl Kept {
     }
 
     /// Takes the marks out where no key is awaited, so that the configuration is handed out. From then on no cluster is marked.
-    pub fn take_marks(&mut self, alloc: Global, missing: &Option<Key>) -> Result<Vec<bool>, Memory>
+    pub fn take_marks(&mut self, alloc: Global, missing: &Option<Key>) -> Result<Marks, Memory>
         ensures kept { self.new ≡ kept_with self.old self.new.others }
-        ensures taken { IfOk result (λ marks. marks.items ≡ marks_if missing.now self.old.others.items) }
-        ensures left { OnOk result (self.new.others.items ≡ marks_left missing.now self.old.others.items) }
+        ensures taken { IfOk result (λ marks. marks ≡ marks_if missing.now self.old.others) }
+        ensures left { OnOk result (self.new.others ≡ marks_left missing.now self.old.others) }
     {
         if missing.is_some() {
-            return Ok(Vec::new(alloc));
+            return Ok(Marks::none(alloc, 0));
         }
-        let unmarked = vec![in alloc; false; self.others.len()]?;
-        Ok(mem::replace(&mut self.others, unmarked))
+        let unmarked = MarkSet::none(alloc, self.others.len());
+        mem::replace(&mut self.others, unmarked).into_marks(alloc)
     }
 }

@@ -1,5 +1,5 @@
 //! The Endpoint keys of leaves.
-ghost use Rattle.std.specs.Prelude.{◌≡◌, ◌==◌, ◌<◌, ◌||◌, ◌&&◌, ℕ, All, IfOk, OnOk, length, map, option_map};
+ghost use Rattle.std.specs.Prelude.{◌≡◌, ◌==◌, ◌<◌, ◌≤◌, ◌^◌, ◌||◌, ◌&&◌, ℕ, All, IfOk, OnOk, length, map, option_map};
 ghost use Rattle.std.specs.List.{list_any};
 ghost use Rattle.xc_base.specs.declared.names.Key.{Key as KeyValue};
 ghost use Rattle.xc_base.specs.declared.names.Kind.TheVariants.{Endpoint as EndpointKind};
@@ -7,6 +7,7 @@ ghost use Rattle.config_assembly.specs.DepsViews.{seen, seen_name};
 ghost use Rattle.dep_manager.specs.KeptAssemblies.{source_of, sources_of};
 ghost use Rattle.dep_manager.specs.LeafPlaces.{ArePlacesOf, has_leaf, has_place, is_listed, is_source};
 
+use block_list::BlockList;
 use config_assembly::Sight;
 use config_assembly::reach::endpoint_name;
 use std::alloc::Global;
@@ -14,14 +15,14 @@ use std::collections::BTreeMap;
 use std::marker::Model;
 use std::sync::ledger::Ledger;
 use xc_base::{Key, Kind, List, Memory, Reason, Shared, Steps, Text};
-use xds_config::{ClusterEntry, Leaf, Leaves};
+use xds_config::{ClusterEntry, Clusters, Leaf, Leaves};
 
 /// Lists a place for the key of a leaf, where it has one.
 fn list_place(
     alloc: Global,
-    places: &mut BTreeMap<Key, List<usize>>,
+    places: &mut BTreeMap<Key, List<u32>>,
     source: &Option<Key>,
-    place: usize,
+    place: u32,
 ) -> Result<(), Memory>
     ensures { OnOk result ((key : KeyValue) (at : ℕ) → is_listed places.new.entries key at ≡ (is_listed places.old.entries key at || (is_source key source.now && (place == at)))) }
 {
@@ -41,9 +42,9 @@ fn list_place(
 /// Lists the place of a cluster for the key of each of its leaves.
 fn list_cluster(
     alloc: Global,
-    places: &mut BTreeMap<Key, List<usize>>,
+    places: &mut BTreeMap<Key, List<u32>>,
     sources: &[Option<Key>],
-    place: usize,
+    place: u32,
 ) -> Result<(), Memory>
     ensures { OnOk result ((key : KeyValue) (at : ℕ) → is_listed places.new.entries key at ≡ (is_listed places.old.entries key at || (list_any (is_source key) sources.now && (place == at)))) }
 {
@@ -57,12 +58,13 @@ fn list_cluster(
 fn places_of(
     alloc: Global,
     sources: &[List<Option<Key>>],
-) -> Result<BTreeMap<Key, List<usize>>, Memory>
+) -> Result<BTreeMap<Key, List<u32>>, Memory>
+    requires { length sources.now ≤ 2 ^ 32 }
     ensures { IfOk result (λ places. ArePlacesOf sources.now places.entries) }
 {
     let mut places = BTreeMap::new(alloc);
     for place in 0..sources.len() {
-        list_cluster(alloc, &mut places, sources[place].as_slice(), place)?;
+        list_cluster(alloc, &mut places, sources[place].as_slice(), place as u32)?;
     }
     Ok(places)
 }
@@ -73,22 +75,24 @@ pub struct LeafSources {
     /// For each cluster, the Endpoint key of each leaf, where the leaf's cluster is known.
     keys: List<List<Option<Key>>>,
     /// For each of these keys, the places of the clusters that have a leaf with it, from 0.
-    places: BTreeMap<Key, List<usize>>,
+    places: BTreeMap<Key, List<u32>>,
 }
 
 impl Model for LeafSources {
+    ghost use Rattle.std.specs.Prelude.{◌≤◌, ◌^◌, length};
     ghost use Rattle.dep_manager.specs.LeafPlaces.{ArePlacesOf, Sources};
 
     ghost Value = { Sources };
 
     ghost view = { λ s. s.keys };
 
-    ghost invariant = { λ s. ArePlacesOf s.keys s.places.entries };
+    ghost invariant = { λ s. ArePlacesOf s.keys s.places.entries × (length s.keys ≤ 2 ^ 32) };
 }
 
 impl LeafSources {
     /// Those of clusters whose leaves have these keys.
     fn of(alloc: Global, keys: List<List<Option<Key>>>) -> Result<LeafSources, Memory>
+        requires { length keys ≤ 2 ^ 32 }
         ensures { IfOk result (λ sources. sources ≡ keys) }
     {
         let places = places_of(alloc, keys.as_slice())?;
@@ -97,7 +101,8 @@ impl LeafSources {
 
     /// How many clusters there are.
     pub fn len(&self) -> usize
-        ensures { result ≡ length self.now }
+        ensures count { result ≡ length self.now }
+        ensures few { result ≤ 2 ^ 32 }
     {
         self.keys.len()
     }
@@ -110,7 +115,7 @@ impl LeafSources {
     }
 
     /// The places of the clusters that have a leaf with this key.
-    pub fn places_of(&self, key: &Key) -> &[usize]
+    pub fn places_of(&self, key: &Key) -> &[u32]
         ensures listed { (at : ℕ) → has_place result.now at ≡ has_leaf self.now key.now at }
         ensures within { All (λ place. place < length self.now) result.now }
     {
@@ -172,18 +177,33 @@ fn sources_of<L: Ledger>(
     }
 }
 
+/// The Endpoint keys of the leaves of each of these clusters.
+fn keys_of_entries<L: Ledger>(
+    sight: Sight<'_>,
+    entries: &BlockList<Shared<ClusterEntry>>,
+    steps: &mut Steps<L>,
+) -> Result<List<List<Option<Key>>>, Memory>
+    requires { length entries.now < 2 ^ 31 }
+    ensures { IfOk result (λ keys. keys ≡ map (λ entry. sources_of (seen sight.entry) entry.state) entries.now) }
+{
+    let mut keys = List::from_vec(Vec::with_capacity(sight.alloc, entries.len())?);
+    for place in 0..entries.len() {
+        let entry = entries.at(place);
+        keys.push(sources_of(sight, &entry.get().state, steps)?)?;
+    }
+    Ok(keys)
+}
+
 /// The Endpoint keys of each cluster's leaves.
 pub fn sources_of_all<L: Ledger>(
     sight: Sight<'_>,
-    entries: &[Shared<ClusterEntry>],
+    clusters: &Clusters,
     steps: &mut Steps<L>,
 ) -> Result<LeafSources, Memory>
-    ensures { IfOk result (λ sources. sources ≡ map (λ entry. sources_of (seen sight.entry) entry.state) entries.now) }
+    ensures { IfOk result (λ sources. sources ≡ map (λ entry. sources_of (seen sight.entry) entry.state) clusters.now) }
 {
-    let mut keys = List::from_vec(Vec::with_capacity(sight.alloc, entries.len())?);
-    for entry in entries {
-        keys.push(sources_of(sight, &entry.get().state, steps)?)?;
-    }
+    let entries = clusters.as_blocks();
+    let keys = keys_of_entries(sight, entries, steps)?;
     let sources = LeafSources::of(sight.alloc, keys)?;
     Ok(sources)
 }

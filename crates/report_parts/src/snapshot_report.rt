@@ -1,5 +1,5 @@
 //! The line of a snapshot.
-ghost use Rattle.std.specs.Prelude.{◌≡◌, ◌++◌, OnOk, option_copied, slice_get, string_bytes};
+ghost use Rattle.std.specs.Prelude.{◌≡◌, ◌<◌, ◌^◌, ◌++◌, length, OnOk, option_copied, slice_get, string_bytes};
 ghost use Rattle.report_parts.specs.Snapshots.{cluster_text, clusters_from, found_tree_text, front_text, front_words, snapshot_line, snapshot_lines};
 ghost use Rattle.tree_text.specs.TreeText.{tree_text};
 
@@ -83,13 +83,14 @@ fn push_cluster(
 #[tactic(auto, unfolding(crate::specs::Snapshots::clusters_from))]
 fn push_clusters(
     out: &mut String,
-    clusters: &[Shared<ClusterEntry>],
+    clusters: &BlockList<Shared<ClusterEntry>>,
     trees: &BlockList<Result<Shared<ShownTree>, Reason>>,
 ) -> Result<(), Memory>
+    requires { length clusters.now < 2 ^ 31 }
     ensures { OnOk result (string_bytes out.new ≡ string_bytes out.old ++ clusters_from trees.now 0 clusters.now) }
 {
-    for (place, cluster) in clusters.iter().enumerate() {
-        push_cluster(out, cluster.get(), tree_at(trees, place))?;
+    for place in 0..clusters.len() {
+        push_cluster(out, clusters.at(place).get(), tree_at(trees, place))?;
     }
     Ok(())
 }
@@ -103,7 +104,7 @@ fn push_snapshot_line(out: &mut String, snapshot: &Snapshot) -> Result<(), Memor
     let config = snapshot.config.get();
     write!(out, "  snap {number} front=")?;
     push_front(out, &config.front)?;
-    push_clusters(out, config.clusters.as_slice(), &snapshot.trees)?;
+    push_clusters(out, config.clusters.as_blocks(), &snapshot.trees)?;
     out.push_str("\n")
 }
 

@@ -1,115 +1,199 @@
--- One change of the timers, and what is due.
-use Rattle.std.proofs.Common.{◌≡◌, ℕ, Bool, true, false, cond, List, map, refl, sym, ap, ◌∙◌, subst, Option, Some, None, Ordering}
-use Rattle.std.specs.Prelude.{◌↔◌, Contains, filter, unwrap_or, IsSome, not}
-use Rattle.std.specs.Ordering.{nat_cmp, ordering_then}
-use Rattle.std.specs.Cmp.{IsTotalOrder}
+-- What is due, and what runs on.
+use Rattle.std.proofs.Common.{◌≡◌, ◌≤◌, ◌+◌, ◌++◌, ℕ, Bool, true, false, cond, List, [], ◌∷◌, map, length, refl, sym, ap, ◌∙◌, subst, Option, Some, None, Ordering, arith, length-append, append_assoc}
+use Rattle.std.specs.Prelude.{◌↔◌, Contains, filter, not, nat_le, slice_get}
+use Rattle.std.specs.declared.cmp.Ordering.TheVariants.{Less, Equal, Greater}
+use Rattle.std.specs.Ordering.{nat_cmp, is_gt, ordering_then}
+use Rattle.std.specs.List.{AllByRecursion, prefix_len}
 use Rattle.std.specs.List.Sorted.{IsStrictlySortedBy}
-use Rattle.std.specs.Map.{lookup, keys_of}
-use Rattle.std.proofs.lemmas.Cmp.{nat_cmp_total, on_total, then_total}
-use Rattle.std.proofs.lemmas.Map.Lookups.{CmpEqualImpliesEq, exact_unsigned}
-use Rattle.std.proofs.lemmas.Map.Keys.{IsDistinct-from_sorted}
-use Rattle.std.proofs.lemmas.Map.Entries.{option_filter, lookup-filter-values}
-use Rattle.std.proofs.lemmas.Map.Views.{Contains-from_lookup, lookup-from_Contains, btree_set_contains_iff, btree_set_contains_from_list}
-use Rattle.std.specs.BTreeSet.{BTreeSet, IsFromIterResult}
+use Rattle.std.proofs.lemmas.Bool.Decides.{nat_tests}
+use Rattle.std.proofs.lemmas.Map.Keys.{le_from_not_gt}
 use Rattle.xc_base.specs.declared.names.Key.{Key}
 use Rattle.xc_base.specs.declared.names.Time.{Time}
-use Rattle.xc_keys.specs.Keys.{key_cmp, is_key}
-use Rattle.xc_keys.proofs.KeyLemmas.{key_total, exact_keys, is_key_equiv, same_key, both_equal, order_of, derived_cmp, derived_is}
-use Rattle.xc_keys.proofs.MemberLemmas.{mapped, from_mapped, kept, from_kept, sorted_alike}
-use Rattle.watch_timers.specs.contracts.timers.StartedOrd.TheImpl.Laws.{total-law}
+use Rattle.xc_keys.specs.Keys.{key_cmp}
+use Rattle.xc_keys.proofs.MemberLemmas.{here, kept, from_kept, sorted_alike}
 use Rattle.watch_timers.specs.declared.timers.Started.{Started}
-use Rattle.watch_timers.specs.Timers.{Running, started_at, has_run, started_cmp, as_started, due_of, runs_on, Starts, TakesDue}
+use Rattle.watch_timers.specs.StartOrder.{IsOrderOf, first_due, after_due}
+use Rattle.watch_timers.specs.Timers.{Running, started_at, has_run, runs_on, started_cmp, TakesDue}
+use Rattle.watch_timers.proofs.OrderLemmas.{derived_order, order_is, timer}
 
--- ---- a start
+-- whether a timer has run out
+abbrev pub is_due : Time → Started → Bool
+is_due now started = has_run now started.at
 
-its_own : (o : Option Time) (at : Time) → IsSome o → o ≡ Some (unwrap_or o at)
-its_own None at some = cc
-its_own (Some t) at some = refl
+-- ---- the first that are due, one by one
 
-kept_time : (b : Bool) (timers : Running) (key other : Key) (at : Time) → is_key key other ≡ b → IsSome (started_at timers key) →
-    started_at timers other ≡ cond b (Some (unwrap_or (started_at timers key) at)) (started_at timers other)
-kept_time true timers key other at is some = ap (λ k. started_at timers k) (sym (same_key key other is)) ∙ its_own (started_at timers key) at some
-kept_time false timers key other at is some = refl
+-- where the first timer hasn't run out, none is taken
+pub none_first : (now : Time) (order : List Started) (first : Started) → slice_get order 0 ≡ Some first → is_due now first ≡ false → first_due now order ≡ []
+none_first now [] first is no_run = refl
+none_first now (started ∷ order) first is no_run =
+    let same : started ≡ first = cc in
+    ap (λ b. cond b (started ∷ first_due now order) []) (subst (λ s. is_due now s ≡ false) (sym same) no_run)
 
--- a timer that runs keeps its time
-pub starts_again : (timers old : Running) (key : Key) (at : Time) → timers ≡ old → IsSome (started_at timers key) → Starts old old key at
-starts_again timers old key at is some = subst (λ ts. Starts ts ts key at) is (λ other. kept_time (is_key key other) timers key other at refl some)
+pub first_goes : (now : Time) (order left : List Started) (first : Started) → order ≡ first ∷ left → is_due now first ≡ true → first_due now order ≡ first ∷ first_due now left
+first_goes now order left first is run = ap (λ o. first_due now o) is ∙ ap (λ b. cond b (first ∷ first_due now left) []) run
 
-new_time : (b : Bool) (old new : Running) (key other : Key) (at : Time) → started_at old key ≡ None →
-    started_at new other ≡ cond b (Some at) (started_at old other) → started_at new other ≡ cond b (Some (unwrap_or (started_at old key) at)) (started_at old other)
-new_time true old new key other at none change = change ∙ ap (λ o. Some (unwrap_or o at)) (sym none)
-new_time false old new key other at none change = change
+pub after_goes : (now : Time) (order left : List Started) (first : Started) → order ≡ first ∷ left → is_due now first ≡ true → after_due now order ≡ after_due now left
+after_goes now order left first is run = ap (λ o. after_due now o) is ∙ ap (λ b. cond b (after_due now left) (first ∷ left)) run
 
--- one that doesn't runs from now on
-pub starts_first : (before old new : Running) (key made : Key) (at : Time) → before ≡ old → made ≡ key → started_at before key ≡ None →
-    ((other : Key) → started_at new other ≡ cond (is_key made other) (Some at) (started_at before other)) → Starts old new key at
-starts_first before old new key made at was same none change =
-    subst (λ ts. Starts ts new key at) was
-    (λ other. new_time (is_key key other) before new key other at none (subst (λ k. started_at new other ≡ cond (is_key k other) (Some at) (started_at before other)) same (change other)))
+after_none_at : (b : Bool) (started : Started) (first after order : List Started) → cond b (started ∷ first) [] ≡ [] → cond b after (started ∷ order) ≡ started ∷ order
+after_none_at true started first after order none = cc
+after_none_at false started first after order none = refl
 
--- ---- what is due
+-- where none is taken, all are left
+pub after_none : (now : Time) (order : List Started) → first_due now order ≡ [] → after_due now order ≡ order
+after_none now [] none = refl
+after_none now (started ∷ order) none = after_none_at (is_due now started) started (first_due now order) (after_due now order) order none
 
-pub started_total : IsTotalOrder started_cmp
-started_total = then_total (on_total (λ started. started.at.0) nat_cmp_total) (on_total (λ started. started.key) key_total)
+-- there is room for the keys of those that are left
+pub room_left : (now : Time) (order left : List Started) (first : Started) (keys more : List Key) (room : ℕ) → first_due now order ≡ first ∷ first_due now left → more ≡ keys ++ first.key ∷ [] →
+    length keys + length (first_due now order) ≤ room → length more + length (first_due now left) ≤ room
+room_left now order left first keys more room goes is fits =
+    let longer : length more ≡ length keys + 1 = ap (λ ks. length ks) is ∙ length-append keys (first.key ∷ []) in
+    let fewer : length (first_due now order) ≡ 1 + length (first_due now left) = ap (λ ss. length ss) goes ∙ omega arith in
+    omega (arith, longer, fewer, fits)
 
-exact_started : CmpEqualImpliesEq started_cmp
-exact_started one other is =
-    let (times, keys) = both_equal (nat_cmp one.at.0 other.at.0) (key_cmp one.key other.key) is in
-    let make : ℕ → Key → Started = λ n key. record { at = record { 0 = n }; key = key } in
-    ap (λ n. make n one.key) (exact_unsigned one.at.0 other.at.0 times) ∙ ap (λ key. make other.at.0 key) (exact_keys one.key other.key keys)
+-- the keys so far and those that are still to come are all
+pub keys_more : (now : Time) (order left : List Started) (first : Started) (keys more all : List Key) → first_due now order ≡ first ∷ first_due now left → more ≡ keys ++ first.key ∷ [] →
+    keys ++ map (λ (s : Started). s.key) (first_due now order) ≡ all → more ++ map (λ (s : Started). s.key) (first_due now left) ≡ all
+keys_more now order left first keys more all goes is whole =
+    ap (λ ks. ks ++ map (λ (s : Started). s.key) (first_due now left)) is
+    ∙ append_assoc keys (first.key ∷ []) (map (λ (s : Started). s.key) (first_due now left))
+    ∙ ap (λ ss. keys ++ map (λ (s : Started). s.key) ss) (sym goes) ∙ whole
 
--- the order that the type's own comparison has
-abbrev pub derived_order : Started → Started → Ordering
-derived_order = order_of total-law
+-- the first in the order runs since its start
+pub first_runs : (order left : List Started) (timers : Running) (first : Started) → order ≡ first ∷ left → IsOrderOf order timers → started_at timers first.key ≡ Some first.at
+first_runs order left timers first is same = (same first.key first.at).0 (subst (λ ss. Contains ss first) (sym is) (here first left))
 
-order_is : (one other : Started) → derived_order one other ≡ started_cmp one other
-order_is one other = ap (λ o. ordering_then (nat_cmp one.at.0 other.at.0) o) (derived_is one.key other.key)
+counted_at : (b : Bool) (started : Started) (first : List Started) (count : ℕ) → length first ≡ count → length (cond b (started ∷ first) []) ≡ cond b (1 + count) 0
+counted_at true started first count is = omega (arith, is)
+counted_at false started first count is = refl
 
-exact_order : CmpEqualImpliesEq derived_order
-exact_order one other is = exact_started one other (sym (order_is one other) ∙ is)
+-- the first that are due are counted up to one that isn't
+pub counted : (now : Time) (order : List Started) → length (first_due now order) ≡ prefix_len (is_due now) order
+counted now [] = refl
+counted now (started ∷ order) = counted_at (is_due now started) started (first_due now order) (prefix_len (is_due now) order) (counted now order)
 
-runs_filtered : (now : Time) (o : Option Time) → option_filter (λ at. not (has_run now at)) o ≡ runs_on now o
-runs_filtered now None = refl
-runs_filtered now (Some at) = by (has_run now at)
+-- ---- in order those that are due stand first
+
+not_above : (o p : Ordering) → ordering_then o p ≡ Less → is_gt o ≡ false
+not_above Less p is = refl
+not_above Equal p is = refl
+not_above Greater p is = cc
+
+-- what was started later hasn't run out, where the earlier hasn't
+still_runs : (now : Time) (one other : Started) → started_cmp one other ≡ Less → is_due now one ≡ false → is_due now other ≡ false
+still_runs now one other is runs =
+    let later : one.at.0 ≤ other.at.0 = le_from_not_gt one.at.0 other.at.0 (not_above (nat_cmp one.at.0 other.at.0) (key_cmp one.key other.key) is) in
+    by one.at.0 other.at.0 now.0 later runs
   where
-    by : (b : Bool) → cond (not b) (Some at) None ≡ cond b None (Some at)
-    by true = refl
-    by false = refl
+    by : (a b n : ℕ) → a ≤ b → nat_le (a + 15000) n ≡ false → nat_le (b + 15000) n ≡ false
+    by a b n later runs = grind (arith, nat_tests)
 
-listed : (timers : Running) (now : Time) (key : Key) (at : Time) → IsStrictlySortedBy key_cmp (keys_of timers) →
-    Contains (due_of now timers) (record { at = at; key = key }) ↔ ((started_at timers key ≡ Some at) × (has_run now at ≡ true))
-listed timers now key at ordered = (there, back)
-  where
-    there : Contains (due_of now timers) (record { at = at; key = key }) → (started_at timers key ≡ Some at) × (has_run now at ≡ true)
-    there has =
-        let (entry, in_filter, same) = from_mapped as_started (filter (λ e. has_run now e.1) timers) (record { at = at; key = key }) has in
-        let (in_timers, run) = from_kept (λ e. has_run now e.1) timers entry in_filter in
-        let keys : entry.0 ≡ key = ap (λ started. started.key) same in
-        let times : entry.1 ≡ at = ap (λ started. started.at) same in
-        let is : Contains timers (key, at) = subst (λ k. Contains timers (k, at)) keys (subst (λ t. Contains timers (entry.0, t)) times in_timers) in
-        (lookup-from_Contains is_key_equiv key at timers (IsDistinct-from_sorted key_cmp (keys_of timers) ordered) is, subst (λ t. has_run now t ≡ true) times run)
+none_due : (now : Time) (started : Started) (order : List Started) → AllByRecursion (λ other. started_cmp started other ≡ Less) order → is_due now started ≡ false → filter (is_due now) order ≡ []
+none_due now started [] below runs = refl
+none_due now started (other ∷ order) (first, below) runs = ap (λ b. cond b (other ∷ filter (is_due now) order) (filter (is_due now) order)) (still_runs now started other first runs) ∙ none_due now started order below runs
 
-    back : (started_at timers key ≡ Some at) × (has_run now at ≡ true) → Contains (due_of now timers) (record { at = at; key = key })
-    back (is, run) = mapped as_started (filter (λ e. has_run now e.1) timers) (key, at) (kept (λ e. has_run now e.1) timers (key, at) (Contains-from_lookup same_key key at timers is) run)
+all_run : (now : Time) (started : Started) (order : List Started) → AllByRecursion (λ other. started_cmp started other ≡ Less) order → is_due now started ≡ false → filter (λ s. not (is_due now s)) order ≡ order
+all_run now started [] below runs = refl
+all_run now started (other ∷ order) (first, below) runs =
+    ap (λ b. cond (not b) (other ∷ filter (λ s. not (is_due now s)) order) (filter (λ s. not (is_due now s)) order)) (still_runs now started other first runs)
+    ∙ ap (λ ss. other ∷ ss) (all_run now started order below runs)
 
-pub takes_due : (timers new : Running) (now : Time) (due : List Started) (starts : BTreeSet Started) (keys : List Key) → IsStrictlySortedBy derived_cmp (keys_of timers) →
-    due ≡ due_of now timers → IsFromIterResult derived_order due starts → keys ≡ map (λ started. started.key) starts.keys → new ≡ filter (λ e. not (has_run now e.1)) timers →
-    TakesDue timers now keys new
-takes_due timers new now due starts keys rises due_is made keys_are left =
-    let ordered = sorted_alike derived_cmp key_cmp derived_is (keys_of timers) rises in record {
-      starts = starts.keys;
+first_at : (b : Bool) (now : Time) (started : Started) (order : List Started) → is_due now started ≡ b → AllByRecursion (λ other. started_cmp started other ≡ Less) order →
+    first_due now order ≡ filter (is_due now) order → cond b (started ∷ first_due now order) [] ≡ cond b (started ∷ filter (is_due now) order) (filter (is_due now) order)
+first_at true now started order is below rest = ap (λ ss. started ∷ ss) rest
+first_at false now started order is below rest = sym (none_due now started order below is)
+
+first_are : (now : Time) (order : List Started) → IsStrictlySortedBy started_cmp order → first_due now order ≡ filter (is_due now) order
+unfolding IsStrictlySortedBy
+first_are now [] sorted = refl
+first_are now (started ∷ order) (below, sorted) = first_at (is_due now started) now started order refl below (first_are now order sorted)
+
+after_at : (b : Bool) (now : Time) (started : Started) (order : List Started) → is_due now started ≡ b → AllByRecursion (λ other. started_cmp started other ≡ Less) order →
+    after_due now order ≡ filter (λ s. not (is_due now s)) order →
+    cond b (after_due now order) (started ∷ order) ≡ cond (not b) (started ∷ filter (λ s. not (is_due now s)) order) (filter (λ s. not (is_due now s)) order)
+after_at true now started order is below rest = rest
+after_at false now started order is below rest = ap (λ ss. started ∷ ss) (sym (all_run now started order below is))
+
+after_are : (now : Time) (order : List Started) → IsStrictlySortedBy started_cmp order → after_due now order ≡ filter (λ s. not (is_due now s)) order
+unfolding IsStrictlySortedBy
+after_are now [] sorted = refl
+after_are now (started ∷ order) (below, sorted) = after_at (is_due now started) now started order refl below (after_are now order sorted)
+
+all_first_at : (b : Bool) (P : Started → Type 0) (started : Started) (first : List Started) → P started → AllByRecursion P first → AllByRecursion P (cond b (started ∷ first) [])
+all_first_at true P started first one all = (one, all)
+all_first_at false P started first one all = tt
+
+all_first : (P : Started → Type 0) (now : Time) (order : List Started) → AllByRecursion P order → AllByRecursion P (first_due now order)
+all_first P now [] all = tt
+all_first P now (started ∷ order) (one, all) = all_first_at (is_due now started) P started (first_due now order) one (all_first P now order all)
+
+sorted_first_at : (b : Bool) (started : Started) (first : List Started) → AllByRecursion (λ other. started_cmp started other ≡ Less) first → IsStrictlySortedBy started_cmp first →
+    IsStrictlySortedBy started_cmp (cond b (started ∷ first) [])
+unfolding IsStrictlySortedBy
+sorted_first_at true started first below sorted = (below, sorted)
+sorted_first_at false started first below sorted = tt
+
+sorted_first : (now : Time) (order : List Started) → IsStrictlySortedBy started_cmp order → IsStrictlySortedBy started_cmp (first_due now order)
+unfolding IsStrictlySortedBy
+sorted_first now [] sorted = tt
+sorted_first now (started ∷ order) (below, sorted) =
+    sorted_first_at (is_due now started) started (first_due now order) (all_first (λ other. started_cmp started other ≡ Less) now order below) (sorted_first now order sorted)
+
+-- ---- what is taken out, and what runs on
+
+taken : (now : Time) (order : List Started) (timers : Running) (key : Key) (at : Time) → IsStrictlySortedBy started_cmp order → IsOrderOf order timers →
+    Contains (first_due now order) (timer key at) ↔ ((started_at timers key ≡ Some at) × (has_run now at ≡ true))
+taken now order timers key at sorted same = (
+  λ has. let (there, run) = from_kept (is_due now) order (timer key at) (subst (λ ss. Contains ss (timer key at)) (first_are now order sorted) has) in ((same key at).0 there, run),
+  λ is. subst (λ ss. Contains ss (timer key at)) (sym (first_are now order sorted)) (kept (is_due now) order (timer key at) ((same key at).1 is.0) is.1),
+)
+
+not_true : (b : Bool) → not b ≡ true → b ≡ false
+not_true true is = cc
+not_true false is = refl
+
+left : (now : Time) (order : List Started) (timers : Running) (key : Key) (at : Time) → IsStrictlySortedBy started_cmp order → IsOrderOf order timers →
+    Contains (after_due now order) (timer key at) ↔ ((started_at timers key ≡ Some at) × (has_run now at ≡ false))
+left now order timers key at sorted same = (
+  λ has.
+      let (there, runs) = from_kept (λ s. not (is_due now s)) order (timer key at) (subst (λ ss. Contains ss (timer key at)) (after_are now order sorted) has) in
+      ((same key at).0 there, not_true (has_run now at) runs),
+  λ is. subst (λ ss. Contains ss (timer key at)) (sym (after_are now order sorted)) (kept (λ s. not (is_due now s)) order (timer key at) ((same key at).1 is.0) (ap (λ b. not b) is.1)),
+)
+
+-- options that have the same values are equal
+same_values : {X : Type 0} (o p : Option X) → ((x : X) → (o ≡ Some x) ↔ (p ≡ Some x)) → o ≡ p
+same_values None None same = refl
+same_values None (Some x) same = (same x).1 refl
+same_values (Some x) None same = sym ((same x).0 refl)
+same_values (Some x) (Some y) same = (same y).1 refl
+
+runs_on_at : (b : Bool) (now at time : Time) → has_run now at ≡ b → (cond b None (Some at) ≡ Some time) ↔ ((Some at ≡ Some time) × (has_run now time ≡ false))
+runs_on_at true now at time is = (
+  λ some. absurd (cc),
+  λ both. let same : at ≡ time = cc in let run = subst (λ t. has_run now t ≡ true) same is in let runs = both.1 in absurd (cc),
+)
+runs_on_at false now at time is = (λ some. let same : at ≡ time = cc in (some, subst (λ t. has_run now t ≡ false) same is), λ both. both.0)
+
+runs_on_values : (now : Time) (o : Option Time) (time : Time) → (runs_on now o ≡ Some time) ↔ ((o ≡ Some time) × (has_run now time ≡ false))
+runs_on_values now None time = (λ some. absurd (cc), λ both. both.0)
+runs_on_values now (Some at) time = runs_on_at (has_run now at) now at time refl
+
+pub takes_due : (order after : List Started) (timers new : Running) (now : Time) (keys : List Key) → IsStrictlySortedBy derived_order order → IsOrderOf order timers → IsOrderOf after new →
+    keys ≡ map (λ started. started.key) (first_due now order) → after ≡ after_due now order → TakesDue timers now keys new
+takes_due order after timers new now keys rises was is keys_are left_are =
+    let sorted = sorted_alike derived_order started_cmp order_is order rises in record {
+      starts = first_due now order;
       keys_are = keys_are;
-      rising = sorted_alike derived_order started_cmp order_is starts.keys made.1;
-      exact = λ key at.
-          let started : Started = record { at = at; key = key } in
-          let held = btree_set_contains_iff total-law exact_order starts started in
-          let from = btree_set_contains_from_list total-law exact_order due starts made started in
-          let is = listed timers now key at ordered in (
-            λ has. is.0 (subst (λ ss. Contains ss started) due_is (from.0 (held.1 has))),
-            λ runs. held.0 (from.1 (subst (λ ss. Contains ss started) (sym due_is) (is.1 runs))),
-          );
+      rising = sorted_first now order sorted;
+      exact = λ key at. taken now order timers key at sorted was;
       others = λ key.
-          ap (λ es. lookup (is_key key) es) left
-          ∙ lookup-filter-values is_key_equiv (λ at. not (has_run now at)) key timers (IsDistinct-from_sorted key_cmp (keys_of timers) ordered)
-          ∙ runs_filtered now (lookup (is_key key) timers);
+          same_values (started_at new key) (runs_on now (started_at timers key)) (λ at.
+          let there = is key at in
+          let stays = left now order timers key at sorted was in
+          let runs = runs_on_values now (started_at timers key) at in (
+            λ some. runs.1 (stays.0 (subst (λ ss. Contains ss (timer key at)) left_are (there.1 some))),
+            λ some. there.0 (subst (λ ss. Contains ss (timer key at)) (sym left_are) (stays.1 (runs.0 some))),
+          ));
     }

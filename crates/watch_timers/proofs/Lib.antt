@@ -1,2 +1,4 @@
 pub mod DueLemmas
+pub mod OrderLemmas
 pub mod RunLemmas
+pub mod StartLemmas

@@ -1,2 +1,3 @@
+pub mod StartOrder
 pub mod TimerRuns
 pub mod Timers

@@ -1,6 +1,6 @@
 -- How long resources are waited for (Envoy's xDS protocol, "Knowing When a Requested Resource Does Not
 -- Exist", which recommends 15 seconds).
-use Rattle.std.specs.Prelude.{◌≡◌, ◌↔◌, ◌+◌, List, map, filter, Contains, Bool, true, nat_le, Option, Some, None, unwrap_or, if◌then◌else◌}
+use Rattle.std.specs.Prelude.{◌≡◌, ◌↔◌, ◌+◌, List, map, Contains, Bool, true, nat_le, Option, Some, None, unwrap_or, if◌then◌else◌}
 use Rattle.std.specs.declared.cmp.Ordering.{Ordering}
 use Rattle.std.specs.Ordering.{nat_cmp, on, then_cmp}
 use Rattle.std.specs.List.Sorted.{IsStrictlySortedBy}
@@ -33,13 +33,6 @@ Stops old new key = (other : Key) → started_at new other ≡ (if is_key key ot
 -- by the time of the start, then by the key
 abbrev pub started_cmp : Started → Started → Ordering
 started_cmp = then_cmp (on (λ started. started.at.0) nat_cmp) (on (λ started. started.key) key_cmp)
-
-abbrev pub as_started : Key × Time → Started
-as_started entry = record { at = entry.1; key = entry.0 }
-
--- the timers that have run out, in the order of the list
-abbrev pub due_of : Time → Running → List Started
-due_of now timers = map as_started (filter (λ entry. has_run now entry.1) timers)
 
 -- what runs on
 abbrev pub runs_on : Time → Option Time → Option Time

@@ -1,10 +1,11 @@
 //! The timers of keys.
-ghost use Rattle.std.specs.Prelude.{◌≡◌, ◌↔◌, [], map, filter, not, is_some, IsTrue, OnOk, OnErr, IfOk};
-ghost use Rattle.std.specs.BTreeMap.{IsOrdered};
-ghost use Rattle.std.specs.BTreeSet.{IsFromIterResult};
-ghost use Rattle.watch_timers.specs.Timers.{has_run, due_of, started_at, Starts, Stops, TakesDue};
+ghost use Rattle.std.specs.Prelude.{◌≡◌, ◌↔◌, ◌≤◌, ◌+◌, [], ◌∷◌, ◌++◌, length, map, true, false, is_some, None, IsTrue, IfSome, IfNone, OnOk, OnErr, IfOk};
+ghost use Rattle.std.specs.BTreeSet.{IsOrdered, Updates};
+ghost use Rattle.std.specs.Vec.{vec_capacity};
+ghost use Rattle.watch_timers.specs.StartOrder.{IsOrderOf, first_due, after_due};
+ghost use Rattle.watch_timers.specs.Timers.{has_run, started_at, Starts, Stops, TakesDue};
 
-use std::alloc::Global;
+use std::alloc::{AllocError, Global};
 use std::collections::{BTreeMap, BTreeSet};
 use std::marker::Model;
 use xc_base::{Key, List, Memory, Time};
@@ -26,14 +27,19 @@ pub struct Started {
 pub struct Timers {
     alloc: Global,
     starts: BTreeMap<Key, Time>,
+    /// The same timers, the earliest start first.
+    order: BTreeSet<Started>,
 }
 
 impl Model for Timers {
+    ghost use Rattle.watch_timers.specs.StartOrder.{IsOrderOf};
     ghost use Rattle.watch_timers.specs.Timers.{Running};
 
     ghost Value = { Running };
 
     ghost view = { λ t. t.starts.entries };
+
+    ghost invariant = { λ t. IsOrderOf t.order.keys t.starts.entries };
 }
 
 /// Whether a timer that was started then has run out.
@@ -46,61 +52,87 @@ fn has_run_out(at: Time, now: Time) -> bool
     }
 }
 
-/// A copy of each timer that has run out.
-fn copies_of_due(
-    alloc: Global,
-    running: &[(&Key, &Time)],
-    now: Time,
-) -> Result<Vec<Started>, Memory>
-    ensures { IfOk result (λ due. due.items ≡ due_of now (map (λ entry. (entry.0.now, entry.1.now)) running.now)) }
+/// How many timers have run out. They stand first. It takes no memory.
+fn count_due(order: &BTreeSet<Started>, now: Time) -> usize
+    ensures count { result ≡ length (first_due now order.now.keys) }
+    ensures ordered { IsOrdered (⟦<Started as Ord>⟧.cmp) order.now }
 {
-    let mut due = Vec::new(alloc);
-    for entry in running {
-        let (key, at) = *entry;
-        if has_run_out(*at, now) {
-            let key = key.clone()?;
-            due.push(Started { at: *at, key })?;
+    order
+        .iter()
+        .take_while(|started| has_run_out(started.at, now))
+        .count()
+}
+
+/// Takes out the first timer, where it has run out. It takes no memory.
+fn take_first_due(order: &mut BTreeSet<Started>, now: Time) -> Option<Started>
+    ensures due { IfSome result (λ started. has_run now started.at ≡ true) }
+    ensures first { IfSome result (λ started. order.old.keys ≡ started ∷ order.new.keys) }
+    ensures updates { IfSome result (λ started. Updates (⟦<Started as Ord>⟧.cmp) order.old order.new started false) }
+    ensures none { IfNone result (first_due now order.old.keys ≡ []) }
+    ensures left { IfNone result (order.new ≡ order.old) }
+{
+    let first = order.first()?;
+    if has_run_out(first.at, now) {
+        order.pop_first()
+    } else {
+        None
+    }
+}
+
+/// Takes out the timers that have run out, and puts their keys into a list that has room for them. It takes no memory.
+fn take_due(
+    order: &mut BTreeSet<Started>,
+    starts: &mut BTreeMap<Key, Time>,
+    now: Time,
+    keys: &mut Vec<Key>,
+)
+    requires room { length keys.old.items + length (first_due now order.old.keys) ≤ vec_capacity keys.old }
+    requires same { IsOrderOf order.old.keys starts.old.entries }
+    ensures keys { keys.new.items ≡ keys.old.items ++ map (λ started. started.key) (first_due now order.old.keys) }
+    ensures left { order.new.keys ≡ after_due now order.old.keys }
+    ensures same { IsOrderOf order.new.keys starts.new.entries }
+{
+    while let Some(started) = take_first_due(order, now) {
+        starts.remove(&started.key);
+        keys.push_reserved(started.key);
+    }
+}
+
+/// Starts the timer of a key that has none. Without memory none is started.
+fn add_start(
+    order: &mut BTreeSet<Started>,
+    starts: &mut BTreeMap<Key, Time>,
+    key: &Key,
+    at: Time,
+) -> Result<(), Memory>
+    requires absent { started_at starts.old.entries key.now ≡ None }
+    requires same { IsOrderOf order.old.keys starts.old.entries }
+    ensures ok { OnOk result (Starts starts.old.entries starts.new.entries key.now at) }
+    ensures err { OnErr result (starts.new.entries ≡ starts.old.entries) }
+    ensures same { IsOrderOf order.new.keys starts.new.entries }
+{
+    let copy = key.clone()?;
+    let key = key.clone()?;
+    order.insert(Started { at, key })?;
+    match starts.insert(copy, at) {
+        Ok(_) => Ok(()),
+        Err(refused) => {
+            let (key, at) = refused.value;
+            order.remove(&Started { at, key });
+            Err(AllocError)
         }
     }
-    Ok(due)
 }
 
-/// The timers that have run out, in the order of their keys.
-fn due_timers(
-    alloc: Global,
-    starts: &BTreeMap<Key, Time>,
-    now: Time,
-) -> Result<Vec<Started>, Memory>
-    ensures { IfOk result (λ due. due.items ≡ due_of now starts.now.entries) }
+/// Ends the key's timer, where it runs. It takes no memory.
+fn remove_start(order: &mut BTreeSet<Started>, starts: &mut BTreeMap<Key, Time>, key: &Key)
+    requires same { IsOrderOf order.old.keys starts.old.entries }
+    ensures stops { Stops starts.old.entries starts.new.entries key.now }
+    ensures same { IsOrderOf order.new.keys starts.new.entries }
 {
-    let running: Vec<(&Key, &Time)> = starts.iter().collect(alloc)?;
-    copies_of_due(alloc, running.as_slice(), now)
-}
-
-/// The timers by their starts and then by their keys, each once.
-fn sort_timers(alloc: Global, due: Vec<Started>) -> Result<BTreeSet<Started>, Memory>
-    ensures { IfOk result (IsFromIterResult (⟦<Started as Ord>⟧.cmp) due.items) }
-{
-    due.into_iter().collect(alloc)
-}
-
-/// The keys of the timers, in the order of the timers.
-fn keys_of(alloc: Global, starts: BTreeSet<Started>) -> Result<List<Key>, Memory>
-    ensures { IfOk result (λ keys. keys ≡ map (λ started. started.key) starts.keys) }
-{
-    let keys = starts
-        .into_iter()
-        .map(|started| started.key)
-        .collect(alloc)?;
-    Ok(List::from_vec(keys))
-}
-
-/// Takes out the timers that have run out, and leaves the others.
-fn take_out(starts: &mut BTreeMap<Key, Time>, now: Time)
-    ensures left { starts.new.entries ≡ filter (λ entry. not (has_run now entry.1)) starts.old.entries }
-    ensures was_ordered { IsOrdered (⟦<Key as Ord>⟧.cmp) starts.old }
-{
-    starts.retain(|_, at| !has_run_out(*at, now));
+    if let Some((key, at)) = starts.remove_entry(key) {
+        order.remove(&Started { at, key });
+    }
 }
 
 impl Timers {
@@ -111,6 +143,7 @@ impl Timers {
         Timers {
             alloc,
             starts: BTreeMap::new(alloc),
+            order: BTreeSet::new(alloc),
         }
     }
 
@@ -137,15 +170,14 @@ impl Timers {
         if self.starts.contains_key(key) {
             return Ok(());
         }
-        self.starts.insert(key.clone()?, at)?;
-        Ok(())
+        add_start(&mut self.order, &mut self.starts, key, at)
     }
 
     /// Ends the key's timer, where it runs. It takes no memory.
     pub fn cancel(&mut self, key: &Key)
         ensures { Stops self.old self.new key.now }
     {
-        self.starts.remove(key);
+        remove_start(&mut self.order, &mut self.starts, key);
     }
 
     /// Takes out the keys whose timers have run for at least 15,000 ms at this moment, in the order of their starts, and
@@ -154,10 +186,9 @@ impl Timers {
         ensures ok { IfOk result (λ keys. TakesDue self.old now keys self.new) }
         ensures err { OnErr result (self.new ≡ self.old) }
     {
-        let due = due_timers(self.alloc, &self.starts, now)?;
-        let starts = sort_timers(self.alloc, due)?;
-        let keys = keys_of(self.alloc, starts)?;
-        take_out(&mut self.starts, now);
-        Ok(keys)
+        let count = count_due(&self.order, now);
+        let mut keys = Vec::with_capacity(self.alloc, count)?;
+        take_due(&mut self.order, &mut self.starts, now, &mut keys);
+        Ok(List::from_vec(keys))
     }
 }

@@ -1,2 +1,3 @@
+mod HalvesLemmas
 pub mod PlaceLemmas
 mod SearchLemmas

@@ -1,18 +1,16 @@
 -- What a search by halves finds in a list that rises strictly.
 use Rattle.std.proofs.Common.{◌≡◌, ℕ, ◌<◌, ◌≤◌, ◌⊎◌, inl, inr, refl, sym, ap, ◌∙◌, subst, arith, List, [], ◌∷◌, length, length-take, map, take, get_or, get_or-take, Bool, true, false, cond, lt-ltb, le-ltb, ltb-true, eqb-true, Some, None, Ordering, Less, Equal, Greater, is_eq, nat_cmp}
 use Rattle.std.proofs.lemmas.Bool.{cases_lt}
-use Rattle.std.proofs.lemmas.Cmp.{nat_cmp_total, nat_list_cmp_total}
+use Rattle.std.proofs.lemmas.Cmp.{nat_cmp_total}
 use Rattle.std.proofs.lemmas.List.{get_or-map, length-map}
 use Rattle.std.proofs.lemmas.List.Folds.{find_at}
 use Rattle.std.proofs.lemmas.List.Sums.{position_or_len_is}
-use Rattle.std.proofs.lemmas.Map.Text.{is_eq-slice_cmp}
 use Rattle.std.proofs.lemmas.Option.{slice_get-get_or, slice_get_past}
 use Rattle.std.specs.Cmp.{IsTotalOrder, nat_cmp_is}
-use Rattle.std.specs.Cmp.Lexicographic.{slice_cmp}
 use Rattle.std.specs.List.{position_or_len, find}
 use Rattle.std.specs.List.Sorted.{IsNonDecreasingBy, IsPartitionPoint}
 use Rattle.std.specs.Ordering.{ordering_index, ordering_reverse}
-use Rattle.std.specs.Prelude.{◌==◌, nat_lt, slice_get, AllPairs, bytes_eq, position, HoldsAt, ⊤}
+use Rattle.std.specs.Prelude.{◌==◌, nat_lt, slice_get, AllPairs, position, HoldsAt, ⊤}
 use Rattle.xds_config.specs.declared.config.ClusterEntry.{ClusterEntry}
 use Rattle.xds_config.specs.declared.route_values.Route.{Route}
 use Rattle.xds_config.specs.SearchedLists.{AreByName, AreByPlace, IsNameBefore}
@@ -57,7 +55,7 @@ module _ {X : Type 0} (p : X → Bool) (xs : List X) where
   find_first : (i : ℕ) (d : X) → i < length xs → p (get_or xs i d) ≡ true → FailBefore i → find p xs ≡ Some (get_or xs i d)
   find_first i d lt here before = find_at p xs ∙ ap (slice_get xs) (first_is i d lt here before) ∙ slice_get-get_or xs i d lt
 
-  position_first : (i : ℕ) (d : X) → i < length xs → p (get_or xs i d) ≡ true → FailBefore i → position p xs ≡ Some i
+  pub position_first : (i : ℕ) (d : X) → i < length xs → p (get_or xs i d) ≡ true → FailBefore i → position p xs ≡ Some i
   position_first i d lt here before =
       ap (λ n. cond (nat_lt n (length xs)) (Some n) None) (first_is i d lt here before) ∙ ap (λ b. cond b (Some i) None) (lt-ltb i (length xs) lt)
 
@@ -68,7 +66,7 @@ none_first p (x ∷ xs) fail = position_or_len_is p (x ∷ xs) (length (x ∷ xs
 find_none : {X : Type 0} (p : X → Bool) (xs : List X) → FailBefore p xs (length xs) → find p xs ≡ None
 find_none p xs fail = find_at p xs ∙ ap (slice_get xs) (none_first p xs fail) ∙ slice_get_past xs (length xs) (omega arith)
 
-position_none : {X : Type 0} (p : X → Bool) (xs : List X) → FailBefore p xs (length xs) → position p xs ≡ None
+pub position_none : {X : Type 0} (p : X → Bool) (xs : List X) → FailBefore p xs (length xs) → position p xs ≡ None
 position_none p xs fail =
     ap (λ n. cond (nat_lt n (length xs)) (Some n) None) (none_first p xs fail) ∙ ap (λ b. cond b (Some (length xs)) None) (le-ltb (length xs) (length xs) (omega arith))
 
@@ -100,12 +98,6 @@ module _ {X : Type 0} (ord : X → Ordering) (is : X → Bool) (same : (x : X) �
   pub find_no_equal : (i : ℕ) → (IsNonDecreasingBy (λ y. ordering_index (ord y)) xs → IsPartitionPoint (λ y. ord y ≡ Less) (λ y. ord y ≡ Greater) xs i) → find is xs ≡ None
   find_no_equal i parted = find_none is xs (none_equal i parted)
 
-  position_at : (i : ℕ) (d : X) → i < length xs → HoldsAt (λ y. ord y ≡ Equal) xs i → position is xs ≡ Some i
-  position_at i d lt equal = position_first is xs i d lt (same (get_or xs i d) ∙ ap is_eq (equal d)) (one_equal i lt equal)
-
-  pub position_no_equal : (i : ℕ) → (IsNonDecreasingBy (λ y. ordering_index (ord y)) xs → IsPartitionPoint (λ y. ord y ≡ Less) (λ y. ord y ≡ Greater) xs i) → position is xs ≡ None
-  position_no_equal i parted = position_none is xs (none_equal i parted)
-
 -- ---- routes
 
 place_decides : (x y : ℕ) → (x == y) ≡ is_eq (nat_cmp x y)
@@ -131,25 +123,6 @@ pub route_missed : (routes : List Route) (place i : ℕ) → AreByPlace routes
     → (IsNonDecreasingBy (λ (r : Route). ordering_index (nat_cmp r.place place)) routes → IsPartitionPoint (λ (r : Route). nat_cmp r.place place ≡ Less) (λ (r : Route). nat_cmp r.place place ≡ Greater) routes i)
     → None ≡ find (λ (r : Route). r.place == place) routes
 route_missed routes place i rising parted = sym (find_no_equal (λ (r : Route). nat_cmp r.place place) (λ r. r.place == place) (λ r. place_decides r.place place) routes (routes_follow routes place rising) i parted)
-
--- ---- clusters
-
-clusters_follow : (clusters : List ClusterEntry) (name : List ℕ) → AreByName clusters → AllPairs (λ a b. Follows (slice_cmp nat_cmp a.name name) (slice_cmp nat_cmp b.name name)) clusters
-clusters_follow clusters name ordered i j d less lt =
-    let x : List ℕ = (get_or clusters i d).name in
-    let y : List ℕ = (get_or clusters j d).name in
-    follows (slice_cmp nat_cmp) nat_list_cmp_total name x y (slice_cmp nat_cmp x name) refl (ordered.rising i j d less lt)
-
-pub cluster_found : (clusters : List ClusterEntry) (name : List ℕ) (i : ℕ) → AreByName clusters → i < length clusters → HoldsAt (λ (c : ClusterEntry). slice_cmp nat_cmp c.name name ≡ Equal) clusters i → Some i ≡ position (λ c. bytes_eq c.name name) clusters
-cluster_found [] name i ordered lt equal = absurd (omega (arith, lt))
-cluster_found (c ∷ cs) name i ordered lt equal =
-    sym (position_at (λ (c : ClusterEntry). slice_cmp nat_cmp c.name name) (λ c. bytes_eq c.name name) (λ c. sym (is_eq-slice_cmp c.name name)) (c ∷ cs) (clusters_follow (c ∷ cs) name ordered) i c lt equal)
-
-pub cluster_missed : (clusters : List ClusterEntry) (name : List ℕ) (i : ℕ) → AreByName clusters
-    → (IsNonDecreasingBy (λ (c : ClusterEntry). ordering_index (slice_cmp nat_cmp c.name name)) clusters → IsPartitionPoint (λ (c : ClusterEntry). slice_cmp nat_cmp c.name name ≡ Less) (λ (c : ClusterEntry). slice_cmp nat_cmp c.name name ≡ Greater) clusters i)
-    → None ≡ position (λ (c : ClusterEntry). bytes_eq c.name name) clusters
-cluster_missed clusters name i ordered parted =
-    sym (position_no_equal (λ (c : ClusterEntry). slice_cmp nat_cmp c.name name) (λ c. bytes_eq c.name name) (λ c. sym (is_eq-slice_cmp c.name name)) clusters (clusters_follow clusters name ordered) i parted)
 
 -- ---- clusters whose entries are renewed
 

@@ -1,5 +1,5 @@
 -- The orders of lists that are searched by halves (this project's own).
-use Rattle.std.specs.Prelude.{◌≡◌, ◌<◌, ◌^◌, ℕ, List, length, AllPairs}
+use Rattle.std.specs.Prelude.{◌≡◌, ◌<◌, ◌≤◌, ◌^◌, ℕ, List, length, get_or, AllPairs}
 use Rattle.std.specs.Ordering.{nat_cmp}
 use Rattle.std.specs.Cmp.Lexicographic.{slice_cmp}
 use Rattle.std.specs.declared.cmp.Ordering.TheVariants.{Less}
@@ -18,3 +18,9 @@ IsNameBefore a b = slice_cmp nat_cmp a b ≡ Less
 pub record AreByName (clusters : List ClusterEntry) : Type 0 where
   pub rising : AllPairs (λ a b. IsNameBefore a.name b.name) clusters
   pub few : length clusters < 2 ^ 31
+
+-- the clusters in front of a place stand before a name, and those from it on don't
+pub record IsPlaceFor (clusters : List ClusterEntry) (name : List ℕ) (place : ℕ) : Type 0 where
+  pub within : place ≤ length clusters
+  pub before : (k : ℕ) (d : ClusterEntry) → k < place → IsNameBefore (get_or clusters k d).name name
+  pub behind : (k : ℕ) (d : ClusterEntry) → place ≤ k → k < length clusters → IsNameBefore (get_or clusters k d).name name → ⊥

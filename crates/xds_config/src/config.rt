@@ -39,7 +39,7 @@ pub struct ClusterEntry {
 
 /// A whole configuration: the front, or the reason why calls have no routes, and the clusters in the
 /// order of their names' bytes.
-#[derive(Drop, PartialEq, Eq)]
+#[derive(Drop)]
 pub struct Config {
     pub front: Result<Front, Reason>,
     pub clusters: Clusters,
@@ -101,11 +101,5 @@ impl Same for Leaves {
 impl Same for ClusterEntry {
     fn same(&self, other: &ClusterEntry) -> bool {
         self.name.same(&other.name) && self.state.same(&other.state)
-    }
-}
-
-impl Same for Config {
-    fn same(&self, other: &Config) -> bool {
-        self.front.same(&other.front) && self.clusters.same(&other.clusters)
     }
 }

@@ -1,16 +1,19 @@
 //! The clusters of a configuration in the order of their names.
-ghost use Rattle.std.specs.Prelude.{◌≡◌, ◌↔◌, ◌≢◌, Some, length, map, take, slice_get, option_map, bytes_eq, position, All, IsNone, IfSome};
-ghost use Rattle.xds_config.specs.SearchedLists.{AreByName};
+ghost use Rattle.std.specs.Prelude.{◌≡◌, ◌<◌, ◌≤◌, ◌^◌, ◌↔◌, ◌≢◌, Some, length, map, take, slice_get, option_map, bytes_eq, position, All, IsNone, IfSome, IsTrue};
+ghost use Rattle.xds_config.specs.SearchedLists.{AreByName, IsNameBefore, IsPlaceFor};
 
 use crate::config::ClusterEntry;
+use block_list::BlockList;
+use std::cmp::Ordering;
 use std::marker::Model;
-use xc_base::{List, Same, Shared, Text};
+use xc_base::{Same, Shared, Text};
 
 /// Clusters by the bytes of their names, no two of one name and fewer than 2^31, which contracts see as
-/// the list of them. A name is found by halves.
-#[derive(Drop, PartialEq, Eq)]
+/// the list of them. A name is found by halves. They lie in blocks, so that configurations which differ in a few clusters
+/// share the others.
+#[derive(Drop)]
 pub struct Clusters {
-    items: List<Shared<ClusterEntry>>,
+    items: BlockList<Shared<ClusterEntry>>,
 }
 
 impl Model for Clusters {
@@ -23,13 +26,46 @@ impl Model for Clusters {
     ghost view = { λ c. c.items };
 
     ghost invariant = { λ c. AreByName c.items };
+}
 
-    ghost inverse = { λ clusters. record { items = clusters } };
+/// Whether a cluster stands before a name.
+fn is_before(cluster: &ClusterEntry, name: &Text) -> bool
+    ensures { IsTrue result ↔ IsNameBefore cluster.now.name name.now }
+{
+    matches!(cluster.name.cmp(name), Ordering::Less)
+}
+
+/// The first place whose cluster doesn't stand before a name.
+fn place_for(clusters: &BlockList<Shared<ClusterEntry>>, name: &Text) -> usize
+    requires { AreByName clusters.now }
+    ensures { IsPlaceFor clusters.now name.now result }
+{
+    let mut from = 0;
+    let mut to = clusters.len();
+    while from < to {
+        let middle = from + (to - from) / 2;
+        if is_before(clusters.at(middle).get(), name) {
+            from = middle + 1;
+        } else {
+            to = middle;
+        }
+    }
+    from
+}
+
+/// Whether the cluster at a place has this name.
+fn is_named(clusters: &BlockList<Shared<ClusterEntry>>, place: usize, name: &Text) -> bool
+    ensures { IsTrue result ↔ (option_map (λ c. c.name) (slice_get clusters.now place) ≡ Some name.now) }
+{
+    match clusters.get(place) {
+        Some(cluster) => cluster.get().name.same(name),
+        None => false,
+    }
 }
 
 impl Clusters {
     /// These clusters. It takes no memory.
-    pub fn from_list(items: List<Shared<ClusterEntry>>) -> Clusters
+    pub fn from_blocks(items: BlockList<Shared<ClusterEntry>>) -> Clusters
         requires { AreByName items }
         ensures { result ≡ items }
     {
@@ -38,7 +74,7 @@ impl Clusters {
 
     /// Other entries of the same clusters: of these, one after another, from the first one on. It takes no
     /// memory.
-    pub fn renewed(&self, items: List<Shared<ClusterEntry>>) -> Clusters
+    pub fn renewed(&self, items: BlockList<Shared<ClusterEntry>>) -> Clusters
         requires { map (λ c. c.name) items ≡ take (length items) (map (λ c. c.name) self.now) }
         ensures { result ≡ items }
     {
@@ -47,11 +83,12 @@ impl Clusters {
         Clusters { items }
     }
 
-    /// Them all, to read.
-    pub fn as_slice(&self) -> &[Shared<ClusterEntry>]
-        ensures { result.now ≡ self.now }
+    /// Them all, to read, in blocks.
+    pub fn as_blocks(&self) -> &BlockList<Shared<ClusterEntry>>
+        ensures same { result.now ≡ self.now }
+        ensures few { length result.now < 2 ^ 31 }
     {
-        self.items.as_slice()
+        &self.items
     }
 
     /// How many there are.
@@ -68,16 +105,11 @@ impl Clusters {
         ensures found { IfSome result (λ i. option_map (λ c. c.name) (slice_get self.now i) ≡ Some name.now) }
         ensures none { IsNone result ↔ All (λ c. c.name ≢ name.now) self.now }
     {
-        let clusters = self.items.as_slice();
-        match clusters.binary_search_by(|cluster| cluster.get().name.cmp(name)) {
-            Ok(place) => Some(place as u32),
-            Err(_) => None,
+        let place = place_for(&self.items, name);
+        if is_named(&self.items, place, name) {
+            Some(place as u32)
+        } else {
+            None
         }
-    }
-}
-
-impl Same for Clusters {
-    fn same(&self, other: &Clusters) -> bool {
-        self.items.same(&other.items)
     }
 }

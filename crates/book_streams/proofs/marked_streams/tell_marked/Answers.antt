@@ -1,6 +1,10 @@
-use Rattle.std.proofs.Common.{◌≡◌, Some, slice_set, refl, sym, subst, ap, ◌∙◌, ◌+◌, arith}
-use Rattle.book_streams.specs.StreamsKept.{names_among}
+use Rattle.std.proofs.Common.{◌≡◌, List, Some, slice_set, refl, sym, subst, ap, ◌∙◌, ◌+◌, arith}
+use Rattle.std.specs.Prelude.{IfSome}
+use Rattle.xc_base.specs.declared.names.Key.{Key}
+use Rattle.ads_stream.specs.StreamSteps.{IsSettledBut}
+use Rattle.book_streams.specs.StreamsKept.{names_among, place_of}
 use Rattle.book_streams.specs.Settling.{AreKept, IsTelling}
+use Rattle.book_streams.proofs.DueLemmas.{settled_given}
 use Rattle.book_streams.proofs.TellLemmas.{all_sent_now, all_told_now, kept_but, telling_begins, telling_keeps, telling_passed, telling_same, telling_told}
 use Rattle.book_streams.proofs.marked_streams.tell_marked.Goals.{then-is_marked+in_ok-tell, else-is_marked}
 use Rattle.book_streams.proofs.marked_streams.tell_marked.Goals as goal
@@ -9,15 +13,23 @@ pub loop-place-init : goal.loop-place-init
 loop-place-init c = record {
   telling =
       subst (λ sent. IsTelling (names_among c.args.told.now) c.args.streams.now.items c.args.streams.now.items c.args.marks.now sent c.first-place.result c.end-place-end.result) (sym c.new-sent.ensures)
-      (telling_begins c.args.streams.now.items c.args.marks.now c.args.told.now c.first-place.result c.end-place-end.result c.requires c.first-place.ensures.none c.end-place-end.ensures.none c.first-place.ensures.within c.end-place-end.ensures.within);
+      (telling_begins c.args.streams.now.items c.args.marks.now c.args.told.now c.first-place.result c.end-place-end.result c.requires.kept c.first-place.ensures.none c.end-place-end.ensures.none c.first-place.ensures.within c.end-place-end.ensures.within);
   told = refl;
+}
+
+pub tell-requires : goal.tell-requires
+tell-requires c = record {
+  settled =
+      subst (λ (keys : List Key). IfSome c.kind_at-kind.result (λ kind. IsSettledBut c.index_mut.result.now (names_among keys (place_of c.loop-place.place)) kind)) (sym c.loop-place.invariant.told)
+      (settled_given (names_among c.args.told.now) c.args.streams.now.items c.loop-place.streams.items c.loop-place.marks c.loop-place.sent c.loop-place.place c.end-place-end.result c.args.due c.index_mut.result.now c.kind_at-kind.result
+      c.loop-place.invariant.telling c.requires.due (omega (arith, c.loop-place-test.true)) c.index_mut.ensures.value c.kind_at-kind.ensures);
 }
 
 pub returns-in_err-tell-clause-kept : goal.returns-in_err-tell-clause-kept
 returns-in_err-tell-clause-kept c =
     subst (λ keys. AreKept (slice_set c.loop-place.streams.items c.loop-place.place c.tell.new.stream) c.loop-place.marks keys) (sym (c.tell.ensures.told ∙ c.loop-place.invariant.told))
     (kept_but c.loop-place.streams.items c.loop-place.marks c.args.told.now c.loop-place.place c.tell.new.stream
-    (telling_keeps c.args.streams.now.items c.loop-place.streams.items c.loop-place.marks c.args.told.now c.loop-place.sent c.loop-place.place c.end-place-end.result c.requires.few c.loop-place.invariant.telling)
+    (telling_keeps c.args.streams.now.items c.loop-place.streams.items c.loop-place.marks c.args.told.now c.loop-place.sent c.loop-place.place c.end-place-end.result c.requires.kept.few c.loop-place.invariant.telling)
     (c.is_marked.ensures ∙ ap (λ b. Some b) c.if-is_marked.true))
 
 pub loop-place-preserved : goal.loop-place-preserved

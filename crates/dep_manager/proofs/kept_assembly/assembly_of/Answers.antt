@@ -1,4 +1,4 @@
-use Rattle.std.proofs.Common.{◌≡◌, ◌++◌, map, sym, ap, ap₂, ◌∙◌, subst, List, Option, Result, Err}
+use Rattle.std.proofs.Common.{◌≡◌, ◌<◌, ◌^◌, ◌++◌, length, map, replicate, true, arith, sym, ap, ap₂, ◌∙◌, subst, List, Option, Result, Err}
 use Rattle.std.specs.Prelude.{filter, unwrap_or}
 use Rattle.std.specs.List.Sorted.{IsStrictlySortedBy}
 use Rattle.xc_base.specs.declared.reason.Reason.{Reason}
@@ -21,6 +21,14 @@ pub awaited_of-requires : goal.awaited_of-requires
 awaited_of-requires g c =
     subst (IsStrictlySortedBy key_cmp) (sym (c.as_slice-2.ensures ∙ c.in_ok-reached.ensures)) (sorted_rises key_cmp key_total (keys_with (seen c.args.sight) c.as_slice.result.now))
 
+pub all-requires : goal.all-requires
+all-requires g c =
+    let few : length c.get-2.result.now.clusters < 2 ^ 31 = subst (λ config. length config.clusters < 2 ^ 31) (sym c.get-2.ensures) c.in_ok-config.ensures.lawful.few in
+    omega (arith, few, c.len.ensures)
+
+pub returns-clause-marked : goal.returns-clause-marked
+returns-clause-marked g c = c.in_ok-others.ensures ∙ ap (λ n. replicate n true) (c.len.ensures ∙ ap (λ config. length config.clusters) c.get-2.ensures)
+
 pub returns-clause-assembled : goal.returns-clause-assembled
 returns-clause-assembled g c =
     let r : Resources = seen c.args.sight in
@@ -31,6 +39,6 @@ returns-clause-assembled g c =
       reached_are = c.in_ok-reached.ensures ∙ ap (λ names. sorted key_cmp (keys_with r names)) (c.as_slice.ensures ∙ clusters) ∙ ap (reach r) (sym c.in_ok-references.ensures);
       awaited_are = c.in_ok-awaited.ensures ∙ ap (filter (λ key. is_wanted (r.fate key))) c.as_slice-2.ensures;
       config_is = c.in_ok-config.ensures.config ∙ ap₂ config_as c.in_ok-front.ensures.front (ap (map (cluster_entry r)) all) ∙ ap (λ names. config_as (front r) (map (cluster_entry r) (roots r names))) (sym c.in_ok-references.ensures);
-      sources_are = c.in_ok-sources.ensures ∙ ap (map (λ entry. sources_of r entry.state)) (c.as_slice-3.ensures ∙ ap (λ config. config.clusters) c.get.ensures);
+      sources_are = c.in_ok-sources.ensures ∙ ap (map (λ entry. sources_of r entry.state)) (ap (λ config. config.clusters) c.get.ensures);
       front_waits = λ none. c.in_ok-front.ensures.awaited (c.in_ok-front.ensures.front ∙ none);
     }

@@ -14,7 +14,7 @@ returns-clause-kept g c entries known target reached listener is changes =
 
 pub returns-clause-stands : goal.returns-clause-stands
 returns-clause-stands g c shown stand =
-    renewed_stand c.in_ok-news.news c.args.last.others.items c.in_ok-renewed.renewed.others.items shown c.args.last.config c.in_ok-renewed.renewed.config c.args.last.sources
+    renewed_stand c.in_ok-news.news c.args.last.others c.in_ok-renewed.renewed.others shown c.args.last.config c.in_ok-renewed.renewed.config c.args.last.sources
     c.in_ok-renewed.ensures.others
     c.in_ok-renewed.ensures.config
     stand

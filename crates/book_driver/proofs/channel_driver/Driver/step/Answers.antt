@@ -24,8 +24,7 @@ show-requires-clause-entries g c =
 
 pub show-requires-clause-others : goal.show-requires-clause-others
 show-requires-clause-others g c =
-    subst (λ marks. IfSome c.in_ok-renewal.renewal.made (λ config. StandAsShown marks c.args.self.now.trees.config config)) (sym c.deref.ensures.value)
-    (subst (λ shown. IfSome c.in_ok-renewal.renewal.made (λ config. StandAsShown c.in_ok-renewal.renewal.others.items shown config)) c.requires.at.at.shown_is c.in_ok-renewal.ensures.others)
+    subst (λ shown. IfSome c.in_ok-renewal.renewal.made (λ config. StandAsShown c.in_ok-renewal.renewal.others shown config)) c.requires.at.at.shown_is c.in_ok-renewal.ensures.others
 
 pub returns-clause-step : goal.returns-clause-step
 returns-clause-step g c s past due =

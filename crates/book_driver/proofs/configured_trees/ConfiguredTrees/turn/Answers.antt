@@ -5,6 +5,7 @@ use Rattle.book_trees.specs.xds_history.Pages.{pages}
 use Rattle.book_trees.specs.xds_history.Page.{config_now}
 use Rattle.book_trees.specs.TreesKept.{cluster_names}
 use Rattle.book_trees.proofs.MarkedLemmas.{marks_tell_change}
+use Rattle.book_driver.proofs.EntryLemmas.{named_alike}
 use Rattle.book_driver.proofs.PublishedLemmas.{new_mark}
 use Rattle.book_driver.proofs.configured_trees.ConfiguredTrees.turn.Goals as goal
 
@@ -22,3 +23,8 @@ returns-clause-seen c s past with other = record {
 
 pub returns-clause-kept : goal.returns-clause-kept
 returns-clause-kept c s past line reply page with of = c.in_ok-seen.ensures.kept past (pages s past) 0 line reply page with.trees_are of
+
+pub follow-requires-clause-names : goal.follow-requires-clause-names
+follow-requires-clause-names c same =
+    named_alike c.args.self.now.config c.args.config c.args.self.now.trees.trees.clusters c.requires.entries
+    (c.is_renamed-is_renamed.ensures same ∙ ap (λ (x : Config). cluster_names (Some x)) c.get.ensures)

@@ -4,7 +4,7 @@ use Rattle.std.proofs.lemmas.List.{get_or_default}
 use Rattle.std.proofs.lemmas.List.Elements.{Contains-get_or}
 use Rattle.xds_config.specs.declared.config.ClusterEntry.{ClusterEntry}
 use Rattle.book_picks.proofs.MarkedPlaces.{AreMarkedPlaces, place_in_turn}
-use Rattle.book_picks.proofs.RenewedLemmas.{AreRenewedTo, item_at, renewed_more, renewed_next, row_seen}
+use Rattle.book_picks.proofs.RenewedLemmas.{AreRenewedTo, renewed_more, renewed_next, row_seen}
 use Rattle.book_picks.proofs.kept_turns.Turns.renew_rows.Goals as goal
 
 pub loop-place-preserved : goal.loop-place-preserved
@@ -21,13 +21,11 @@ loop-place-preserved c =
     } in
     let among : turn < length places = c.loop-place-test.true in
     let is : place ≡ place_in_turn places count turn = get_or_default places turn 0 count among in
-    let there : place < count = are.within turn 0 among in
-    let entries : c.as_slice-entries.result.now ≡ c.args.snapshot.now.config.clusters = c.as_slice-entries.ensures ∙ ap (λ x. x.clusters) c.get.ensures in
+    let entries : c.as_blocks-entries.result.now ≡ c.args.snapshot.now.config.clusters = c.as_blocks-entries.ensures.same ∙ ap (λ x. x.clusters) c.get.ensures in
     let own : slice_get c.args.snapshot.now.config.clusters place ≡ Some cluster =
-    item_at c.as_slice-entries.result.now c.args.snapshot.now.config.clusters place c.index-entries-place.result entries (omega (arith, there, ap (λ es. length es) entries)) c.index-entries-place.is
-    ∙ ap (λ x. Some x) (sym c.get-in-loop-place.ensures) in
+    ap (λ es. slice_get es place) (sym entries) ∙ (c.at.ensures ∙ ap (λ x. Some x) (sym c.get-in-loop-place.ensures)) in
     renewed_next places turn place c.args.trees.now c.args.snapshot.now c.args.marks.now c.args.self.now c.renew_row.new.self are among is
-    (renewed_more place c.args.trees.now c.args.snapshot.now c.args.marks.now c.args.self.now c.loop-place.self c.renew_row.new.self cluster c.requires.lawful own
-    (row_seen c.renew_row.new.self cluster.name place c.args.trees.now c.args.snapshot.now c.at.result.now c.at.ensures c.in_ok-renew_row.ensures.row)
-    c.in_ok-renew_row.ensures.others c.in_ok-renew_row.ensures.extends ((are.marked place).1 (Contains-get_or places turn 0 among))
+    (renewed_more place c.args.trees.now c.args.snapshot.now c.args.marks.now c.args.self.now c.loop-place.self c.renew_row.new.self cluster own
+    (λ less. row_seen c.renew_row.new.self cluster.name place c.args.trees.now c.args.snapshot.now c.at-in-loop-place.result.now c.at-in-loop-place.ensures (c.in_ok-renew_row.ensures.row less))
+    c.in_ok-renew_row.ensures.others c.in_ok-renew_row.ensures.many c.in_ok-renew_row.ensures.places c.in_ok-renew_row.ensures.extends ((are.marked place).1 (Contains-get_or places turn 0 among))
     (subst (λ p. AreRenewedTo p c.args.trees.now c.args.snapshot.now c.args.marks.now c.args.self.now c.loop-place.self) (sym is) c.loop-place.invariant))

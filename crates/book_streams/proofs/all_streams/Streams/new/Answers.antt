@@ -13,5 +13,7 @@ loop-place-preserved c = record {
 
 pub invariant_of-result : goal.invariant_of-result
 invariant_of-result c =
-    let all : c.args.count ≡ c.loop-place.place = omega (arith, c.loop-place.invariant.few, c.loop-place-test.false) in
-    kept_new c.args.node.now c.loop-place.streams.items _ _ c.loop-place.place c.loop-place.invariant.items (c.in_ok-marks.ensures ∙ ap (λ n. replicate n false) all) (omega (arith, c.loop-place.invariant.few, c.requires))
+    let all : c.args.count ≡ c.loop-place.place = omega (arith, c.loop-place.invariant.few, c.loop-place-test.false) in (
+      kept_new c.args.node.now c.loop-place.streams.items _ _ c.loop-place.place c.loop-place.invariant.items (c.in_ok-marks.ensures ∙ ap (λ n. replicate n false) all) (omega (arith, c.loop-place.invariant.few, c.requires)),
+      λ place kind state is at. absurd (cc is),
+    )

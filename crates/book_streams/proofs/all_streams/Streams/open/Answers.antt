@@ -1,14 +1,19 @@
-use Rattle.std.proofs.Common.{slice_set, sym, subst, ap, ap₂, ◌∙◌}
+use Rattle.std.proofs.Common.{List, slice_set, sym, subst, ap, ap₂, ◌∙◌}
 use Rattle.ads_stream.specs.StreamSteps.{opened}
-use Rattle.book_streams.specs.StreamsKept.{StreamsKept}
+use Rattle.book_streams.specs.StreamsKept.{StreamsKept, names_among}
 use Rattle.book_streams.specs.Settling.{AreKept}
+use Rattle.ads_stream.specs.declared.stream.StreamState.{StreamState}
+use Rattle.book_streams.proofs.DueLemmas.{any_settled}
 use Rattle.book_streams.proofs.TellLemmas.{item_at, kept_marked}
 use Rattle.book_streams.proofs.all_streams.Streams.open.Goals as goal
 
 pub invariant_of-self : goal.invariant_of-self
 invariant_of-self c =
-    subst (λ marks. AreKept (slice_set c.self.inside.streams.items c.args.place c.opened.new.self) marks c.self.inside.told) (sym c.mark.ensures)
-    (kept_marked c.self.inside.streams.items c.self.inside.marks c.self.inside.told c.args.place c.opened.new.self c.self.invariant)
+    let now : List StreamState = slice_set c.self.inside.streams.items c.args.place c.opened.new.self in (
+      subst (λ marks. AreKept now marks c.self.inside.told) (sym c.mark.ensures)
+          (kept_marked c.self.inside.streams.items c.self.inside.marks c.self.inside.told c.args.place c.opened.new.self c.self.invariant.0),
+      any_settled now (names_among c.self.inside.told),
+    )
 
 pub returns-clause-state : goal.returns-clause-state
 returns-clause-state c = λ state at.

@@ -8,16 +8,16 @@ use Rattle.dep_manager.proofs.deps.Deps.keep.Goals.{in-Some+in_ok-share+in-Some-
 
 pub invariant_of-self : goal.invariant_of-self
 invariant_of-self c =
-    let stand : StandAsShown c.outcome_of.new.kept.others.items (option_or c.in_ok-outcome.outcome.config c.args.self.now.shown) c.outcome_of.new.kept.config =
+    let stand : StandAsShown c.outcome_of.new.kept.others (option_or c.in_ok-outcome.outcome.config c.args.self.now.shown) c.outcome_of.new.kept.config =
     stand_kept c.args.reached c.args.stays c.args.made c.outcome_of.new.kept c.in_ok-outcome.outcome c.args.self.now.shown c.in_ok-outcome.ensures.outcome c.in_ok-outcome.ensures.kept c.in_ok-outcome.ensures.left c.requires in
     elim c.match-outcome.branch [
       | in-Some+in_ok-share+in-Some-1 w ↦ (let shown : c.match-outcome.self-inside.shown ≡ option_or c.in_ok-outcome.outcome.config c.args.self.now.shown = search rules in
           let kind : c.match-outcome.self-inside.target.key.kind ≡ Kind.Listener = search rules in
-          (kind, subst (λ was. StandAsShown c.outcome_of.new.kept.others.items was c.outcome_of.new.kept.config) (sym shown) stand))
+          (kind, subst (λ was. StandAsShown c.outcome_of.new.kept.others was c.outcome_of.new.kept.config) (sym shown) stand))
       | in-Some+in_ok-share+in-None-1 w ↦ (let shown : c.match-outcome.self-inside.shown ≡ option_or c.in_ok-outcome.outcome.config c.args.self.now.shown = search rules in
           let kind : c.match-outcome.self-inside.target.key.kind ≡ Kind.Listener = search rules in
-          (kind, subst (λ was. StandAsShown c.outcome_of.new.kept.others.items was c.outcome_of.new.kept.config) (sym shown) stand))
+          (kind, subst (λ was. StandAsShown c.outcome_of.new.kept.others was c.outcome_of.new.kept.config) (sym shown) stand))
       | in_default w ↦ (let shown : c.match-outcome.self-inside.shown ≡ option_or c.in_ok-outcome.outcome.config c.args.self.now.shown = search rules in
           let kind : c.match-outcome.self-inside.target.key.kind ≡ Kind.Listener = search rules in
-          (kind, subst (λ was. StandAsShown c.outcome_of.new.kept.others.items was c.outcome_of.new.kept.config) (sym shown) stand))
+          (kind, subst (λ was. StandAsShown c.outcome_of.new.kept.others was c.outcome_of.new.kept.config) (sym shown) stand))
     ]

@@ -18,7 +18,7 @@ pub returns-clause-stands : goal.returns-clause-stands
 returns-clause-stands c =
     stood_last c.last_to_follow.result c.args.self.now.last c.args.self.now.shown
     (was_last c.last_to_follow.result c.take.result c.args.self.now.last (c.take.ensures.value ∙ ap (λ d. d.last) c.self.view_is) c.last_to_follow.ensures.kept)
-    (subst (λ d. IfSome d.last (λ kept. StandAsShown kept.others.items d.shown kept.config)) c.self.view_is c.self.invariant.1)
+    (subst (λ d. IfSome d.last (λ kept. StandAsShown kept.others d.shown kept.config)) c.self.view_is c.self.invariant.1)
 
 pub returns-clause-some : goal.returns-clause-some
 returns-clause-some c kept is same endpoints = c.last_to_follow.ensures.some kept (c.take.ensures.value ∙ ap (λ d. d.last) c.self.view_is ∙ is) same endpoints

@@ -19,7 +19,7 @@ pub follow-requires-clause-endpoints : goal.follow-requires-clause-endpoints
 follow-requires-clause-endpoints g c = ap are_endpoints (sym c.as_slice.ensures) ∙ c.in-Some.ensures.endpoints
 
 pub follow-requires-clause-stands : goal.follow-requires-clause-stands
-follow-requires-clause-stands g c = subst (λ d. StandAsShown c.in-Some.last.others.items d.shown c.in-Some.last.config) (sym c.take_last.ensures.rest) c.in-Some.ensures.stands
+follow-requires-clause-stands g c = subst (λ d. StandAsShown c.in-Some.last.others d.shown c.in-Some.last.config) (sym c.take_last.ensures.rest) c.in-Some.ensures.stands
 
 pub returns-in_ok-outcome-in-Some-clause-reached : goal.returns-in_ok-outcome-in-Some-clause-reached
 returns-in_ok-outcome-in-Some-clause-reached g c =
@@ -118,14 +118,14 @@ returns-in_err-outcome-in-Some-clause-cost g c last kept same endpoints = c.foll
 
 pub returns-in_ok-outcome-in-Some-clause-others : goal.returns-in_ok-outcome-in-Some-clause-others
 returns-in_ok-outcome-in-Some-clause-others g c =
-    subst (λ d. IfSome c.in_ok-outcome-in-Some.outcome.config (λ config. StandAsShown c.in_ok-outcome-in-Some.outcome.others.items d.shown config)) c.take_last.ensures.rest c.in_ok-outcome-in-Some.ensures.others
+    subst (λ d. IfSome c.in_ok-outcome-in-Some.outcome.config (λ config. StandAsShown c.in_ok-outcome-in-Some.outcome.others d.shown config)) c.take_last.ensures.rest c.in_ok-outcome-in-Some.ensures.others
 
 pub returns-in_ok-outcome-in-Some-clause-shown : goal.returns-in_ok-outcome-in-Some-clause-shown
 returns-in_ok-outcome-in-Some-clause-shown g c = c.in_ok-outcome-in-Some.ensures.shown ∙ ap (λ d. option_or c.in_ok-outcome-in-Some.outcome.config d.shown) c.take_last.ensures.rest
 
 pub returns-in_ok-outcome-in-None-clause-others : goal.returns-in_ok-outcome-in-None-clause-others
 returns-in_ok-outcome-in-None-clause-others g c =
-    subst (λ d. IfSome c.in_ok-outcome-in-None.outcome.config (λ config. StandAsShown c.in_ok-outcome-in-None.outcome.others.items d.shown config)) c.take_last.ensures.rest c.in_ok-outcome-in-None.ensures.others
+    subst (λ d. IfSome c.in_ok-outcome-in-None.outcome.config (λ config. StandAsShown c.in_ok-outcome-in-None.outcome.others d.shown config)) c.take_last.ensures.rest c.in_ok-outcome-in-None.ensures.others
 
 pub returns-in_ok-outcome-in-None-clause-shown : goal.returns-in_ok-outcome-in-None-clause-shown
 returns-in_ok-outcome-in-None-clause-shown g c = c.in_ok-outcome-in-None.ensures.shown ∙ ap (λ d. option_or c.in_ok-outcome-in-None.outcome.config d.shown) c.take_last.ensures.rest

@@ -9,7 +9,7 @@ listed : (c : goal.After-as_slice) (at : ℕ) → has_place c.as_slice.result.no
 listed c at =
     ap (λ places. has_place places at) c.as_slice.ensures
     ∙ ap (λ o. has_place (unwrap_or o []) at) (c.in-Some.ensures.value ∙ found_alike c.args.key.now c.self.inside.places.entries)
-    ∙ c.self.invariant c.args.key.now at
+    ∙ c.self.invariant.0 c.args.key.now at
     ∙ ap (λ keys. has_leaf keys c.args.key.now at) c.self.view_is
 
 pub returns-in-Some-clause-listed : goal.returns-in-Some-clause-listed
@@ -21,5 +21,5 @@ returns-in-Some-clause-within c = places_within c.args.key.now c.args.self.now c
 pub returns-in-None-clause-listed : goal.returns-in-None-clause-listed
 returns-in-None-clause-listed c at =
     ap (λ o. has_place (unwrap_or o []) at) (c.in-None.ensures.value ∙ found_alike c.args.key.now c.self.inside.places.entries)
-    ∙ c.self.invariant c.args.key.now at
+    ∙ c.self.invariant.0 c.args.key.now at
     ∙ ap (λ keys. has_leaf keys c.args.key.now at) c.self.view_is
