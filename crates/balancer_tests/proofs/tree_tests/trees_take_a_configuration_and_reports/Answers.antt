@@ -16,4 +16,4 @@ update-requires-2-clause-others g c =
     subst (λ (marks : List Bool). EntriesStay marks c.update_states.new.self.clusters c.in_ok-config.config.clusters) (sym c.in_ok-others.ensures) (one_marked c.update_states.new.self.clusters c.in_ok-config.config.clusters c.in_ok-config.ensures.one)
 
 pub update-requires-2-clause-names : goal.update-requires-2-clause-names
-update-requires-2-clause-names g c = λ same. names_kept_twice _ _ _ _ c.in_ok-config.config.clusters _ c.update.new.self c.update_states.new.self c.in_ok-first.ensures.step c.in_ok-second.ensures.step
+update-requires-2-clause-names g c = λ same. names_kept_twice (record { 0 = 0 }) (record { 0 = 1 }) c.insert.new.self.entries c.insert.new.self.entries c.in_ok-config.config.clusters c.new-trees.result c.update.new.self c.update_states.new.self c.in_ok-first.ensures.step c.in_ok-second.ensures.step
