@@ -28,7 +28,8 @@ use Rattle.book_calls.specs.RefsKept.{list_at, AreRefsAt}
 use Rattle.book_calls.specs.CallsLaws.{DriversChangeNoReferences, RetainedAreReferences}
 use Rattle.book_calls.proofs.SnapshotNumbers.{are_numbered, pins_have_snapshots}
 use Rattle.book_calls.proofs.SnapshotPlaces.{stays_at}
-use Rattle.book_calls.proofs.SortedNames.{sorted_rises, same_names}
+use Rattle.xds_history.proofs.config_assembly.SortedLists.{sorted_rises}
+use Rattle.book_calls.proofs.SortedNames.{same_names}
 
 -- ---- a driver's entry
 

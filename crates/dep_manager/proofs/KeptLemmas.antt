@@ -24,6 +24,7 @@ use Rattle.config_assembly.specs.WholeConfigs.{cluster_entry, cluster_state, con
 use Rattle.config_assembly.specs.Watching.{IsWatching, has_key}
 use Rattle.config_assembly.proofs.ReachLemmas.{whole_where}
 use Rattle.dep_manager.specs.Laws.{AgreeAt, with_fates}
+use Rattle.dep_manager.specs.CallsAlone.{AreCallsAlone}
 use Rattle.dep_manager.specs.KeptAssemblies.{AreChanges, HaveChanged, IsAssembledOf, IsKeptOf, IsRightBy, Managed, config_if, config_so_far, kept_with, least_of, source_of, sources_of}
 use Rattle.dep_manager.specs.ShownEntries.{StandAsShown}
 use Rattle.dep_manager.specs.UpdateOutcomes.{IsOutcomeBy, outcome_of}
@@ -121,6 +122,7 @@ module _ (r : Resources) (references : List Name) (fate : Key → Known) (agree 
         config_is = config ∙ sym so_far_same ∙ ap (config_so_far other) (sym same);
         sources_are = is.sources_are ∙ sym (map_same (λ entry. sources_of other entry.state) (λ entry. sources_of r entry.state) kept.config.clusters (λ entry has. entry_known entry (subst (λ cs. Contains cs entry) (ap (λ x. x.clusters) config) has)));
         front_waits = waits_same r references fate t p c is.front_waits;
+        alone_are = subst (λ found. AreCallsAlone (names_of found) kept.references kept.calls_alone) (sym (front_same r references fate t p c)) is.alone_are;
       }
 
 -- ---- what is watched
@@ -161,22 +163,6 @@ kept_by entries old new target references reached kept is same lawful watching =
   lawful = lawful;
 }
 
--- ---- what was kept, taken out
-
-pub kept_at : (entries : List AuthorityEntry) (old new : Managed) (now : Watched) (changed : List Key) (last : Kept) → new ≡ record { target = old.target; reached = old.reached; last = None; shown = old.shown } → old.last ≡ Some last → HaveChanged entries old now changed →
-    (known : Watched) × IsKeptOf entries known new.target new.reached last × AreChanges known now changed
-kept_at entries old new now changed last rest is (known, right, changes) =
-    (known, subst (λ d. IsKeptOf entries known d.target d.reached last) (sym rest) (subst (λ o. IfSome o (IsKeptOf entries known old.target old.reached)) is right), changes)
-
-pub was_last : (result taken last : Option Kept) → taken ≡ last → IfSome result (λ kept. taken ≡ Some kept) → IfSome result (λ kept. last ≡ Some kept)
-was_last None taken last same is = tt
-was_last (Some kept) taken last same is = sym same ∙ is
-
-pub stood_last : (result last : Option Kept) (shown : Option Config) → IfSome result (λ kept. last ≡ Some kept) → IfSome last (λ kept. StandAsShown kept.others shown kept.config) →
-    IfSome result (λ kept. StandAsShown kept.others shown kept.config)
-stood_last None last shown is stand = tt
-stood_last (Some kept) last shown is stand = subst (λ o. IfSome o (λ k. StandAsShown k.others shown k.config)) is stand
-
 -- ---- what is kept, with other marks
 
 kept_again : (entries : List AuthorityEntry) (known : Watched) (target : Target) (reached : List Key) (kept : Kept) (marks : List Bool) → IsKeptOf entries known target reached kept → IsKeptOf entries known target reached (kept_with kept marks)
@@ -187,6 +173,7 @@ kept_again entries known target reached kept marks is = record {
     config_is = is.assembled.config_is;
     sources_are = is.assembled.sources_are;
     front_waits = is.assembled.front_waits;
+    alone_are = is.assembled.alone_are;
   };
   watched = is.watched;
   lawful = is.lawful;

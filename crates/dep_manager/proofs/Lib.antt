@@ -7,6 +7,7 @@ pub mod PairLemmas
 pub mod PlaceLemmas
 pub mod ReachSteps
 pub mod RenewLemmas
+pub mod RootLemmas
 pub mod ShownLemmas
 pub mod SortedKeys
 pub mod ToldLemmas

@@ -1,5 +1,5 @@
 -- What is kept once endpoints changed.
-use Rattle.std.proofs.Common.{◌≡◌, ℕ, suc, ◌<◌, arith, Bool, true, false, ◌||◌, Option, Some, None, Result, Ok, Err, List, [], ◌∷◌, map, take, length, get_or, refl, sym, ap, ap₂, ◌∙◌, subst, is_some}
+use Rattle.std.proofs.Common.{◌≡◌, ℕ, suc, ◌<◌, arith, Bool, true, false, ◌||◌, Option, Some, None, Result, Ok, Err, List, [], ◌∷◌, ◌++◌, map, take, length, get_or, refl, sym, ap, ap₂, ◌∙◌, subst, is_some}
 use Rattle.std.specs.Prelude.{◌≢◌, ◌^◌, ◌&&◌, All, AllPairs, Contains, IfOk, IfSome, filter, if◌then◌else◌, option_and_then, option_map, unwrap_or}
 use Rattle.std.specs.List.{list_any}
 use Rattle.std.specs.List.Sorted.{IsStrictlySortedBy}
@@ -26,13 +26,14 @@ use Rattle.aggregate_expand.specs.declared.expand_fault.ExpandFault.{ExpandFault
 use Rattle.aggregate_expand.specs.Leaves.{leaves_of}
 use Rattle.xds_cache.specs.KeptFates.{Watched, fate_at, fate_of}
 use Rattle.xds_cache.specs.declared.fate.Known.{Known}
-use Rattle.config_assembly.specs.Orders.{Name}
+use Rattle.config_assembly.specs.Orders.{Name, name_cmp, sorted}
 use Rattle.config_assembly.specs.ReachedResources.{Resources, cluster_fate, resources}
-use Rattle.config_assembly.specs.Front.{front}
+use Rattle.config_assembly.specs.Front.{front, names_of}
 use Rattle.config_assembly.specs.Reach.{aggregates, children_of, endpoint_name, is_wanted, keys_with, reach, reached_clusters, roots}
 use Rattle.config_assembly.specs.WholeConfigs.{cluster_entry, cluster_state, endpoints_of, leaf_of, leaf_state, leaves_state}
 use Rattle.config_assembly.specs.Watching.{has_key}
 use Rattle.dep_manager.specs.Laws.{with_fates}
+use Rattle.dep_manager.specs.CallsAlone.{AreCallsAlone, KeepsRoots}
 use Rattle.dep_manager.specs.EndpointNews.{AreLawfulNews, State, Told, are_endpoints, is_awaited, is_endpoint_kind, is_told, state_in}
 use Rattle.dep_manager.specs.RenewedConfigs.{leaf_with, renewed_config, renewed_entries, renewed_entry, renewed_leaf, renewed_leaves, renewed_state}
 use Rattle.dep_manager.specs.KeptAssemblies.{AreChanges, IsKeptOf, config_so_far, source_of, sources_of}
@@ -40,7 +41,8 @@ use Rattle.dep_manager.specs.declared.kept_assembly.Kept.{Kept}
 use Rattle.dep_manager.proofs.NewsLemmas.{unchanged}
 use Rattle.dep_manager.proofs.KeptLemmas.{sources_named}
 use Rattle.dep_manager.proofs.ReachSteps.{front_same, leaves_same, map_same, reach_same, roots_same, waits_same}
-use Rattle.dep_manager.proofs.SortedKeys.{are_kept, has_kept, sorted_rises}
+use Rattle.config_assembly.proofs.SortedLists.{sorted_rises}
+use Rattle.dep_manager.proofs.SortedKeys.{are_kept, has_kept}
 
 -- ---- nothing is told
 
@@ -308,6 +310,22 @@ module _ (r : Resources) (told : Told) (news : AreLawfulNews told) where
   pub config_lawful : (config : Config) → IsLawfulConfig config → IsLawfulConfig (renewed_config told config (entry_keys config.clusters))
   config_lawful config lawful = config_with config (list_any (list_any (is_told told)) (entry_keys config.clusters)) lawful
 
+-- ---- the front
+
+-- where Endpoint keys changed, the front is the same
+pub front_stays : (entries : List AuthorityEntry) (known now : Watched) (target : Target) (changed : List Key) (references : List Name) → target.key.kind ≡ Kind.Listener → are_endpoints changed ≡ true → AreChanges known now changed →
+    front (resources target entries now) ≡ front (resources target entries known)
+front_stays entries known now target changed references listener endpoints changes =
+    let of_kind : (key : Key) → is_endpoint_kind key.kind ≡ false → fate_of now key ≡ fate_of known key = λ key other. ap (fate_at key.home) (changes.others key (unchanged changed key endpoints other)) in
+    let r : Resources = resources target entries known in
+    front_same r references (fate_of now) (of_kind target.key (ap is_endpoint_kind listener)) (λ name named. of_kind (r.key Kind.Route name) refl) (λ name has. of_kind (r.key Kind.Cluster name) refl)
+
+-- and so are the roots, where calls refer to the same clusters
+pub kept_roots : (entries : List AuthorityEntry) (known now : Watched) (target : Target) (changed : List Key) (before after : List Name) → target.key.kind ≡ Kind.Listener → are_endpoints changed ≡ true → AreChanges known now changed →
+    KeepsRoots (resources target entries now) before after → KeepsRoots (resources target entries known) before after
+kept_roots entries known now target changed before after listener endpoints changes keeps =
+    subst (λ found. sorted name_cmp (names_of found ++ after) ≡ sorted name_cmp (names_of found ++ before)) (front_stays entries known now target changed before listener endpoints changes) keeps
+
 -- ---- all that is kept
 
 module _ (entries : List AuthorityEntry) (known now : Watched) (target : Target) (reached changed : List Key) (told : Told) (last : Kept)
@@ -359,10 +377,10 @@ module _ (entries : List AuthorityEntry) (known now : Watched) (target : Target)
       are_kept (λ key. is_wanted (fate_of now key)) reached awaited rising also
       (λ key. have key ∙ awaited_at key (has_key changed key) (has_key last.awaited.keys key) refl (ap (λ keys. has_key keys key) is.assembled.awaited_are ∙ has_kept waits_before reached key))
 
-  pub renewed_by : (kept : Kept) → AreLawfulNews told → kept.references ≡ last.references → kept.sources ≡ last.sources → kept.config ≡ renewed_config told last.config last.sources →
+  pub renewed_by : (kept : Kept) → AreLawfulNews told → kept.references ≡ last.references → kept.calls_alone ≡ last.calls_alone → kept.sources ≡ last.sources → kept.config ≡ renewed_config told last.config last.sources →
       ((key : Key) → has_key kept.awaited.keys key ≡ (if has_key changed key then is_awaited now key else has_key last.awaited.keys key)) → (IsStrictlySortedBy key_cmp last.awaited.keys → IsStrictlySortedBy key_cmp kept.awaited.keys) →
       IsKeptOf entries now target reached kept
-  renewed_by kept lawful references sources config awaited rises =
+  renewed_by kept lawful references alone sources config awaited rises =
       let fate : Key → Known = fate_of now in
       let route : (name : Name) → fate (r.key Kind.Route name) ≡ r.fate (r.key Kind.Route name) = λ name. of_kind (r.key Kind.Route name) refl in
       let cluster : (name : Name) → fate (r.key Kind.Cluster name) ≡ r.fate (r.key Kind.Cluster name) = λ name. of_kind (r.key Kind.Cluster name) refl in
@@ -377,6 +395,7 @@ module _ (entries : List AuthorityEntry) (known now : Watched) (target : Target)
           config_is = made ∙ ap (config_so_far (with_fates r fate)) (sym references);
           sources_are = sources ∙ before ∙ sources_renewed r last.references fate told no_listener route cluster at_none at_some ∙ ap (λ c. map (λ entry. sources_of (with_fates r fate) entry.state) c.clusters) (sym made);
           front_waits = waits_same r last.references fate no_listener (λ name named. route name) (λ name has. cluster name) is.assembled.front_waits;
+          alone_are = subst (λ found. AreCallsAlone (names_of found) kept.references kept.calls_alone) (sym (front_stays entries known now target changed last.references listener endpoints changes)) (subst (λ names. AreCallsAlone (names_of (front r)) names kept.calls_alone) (sym references) (subst (AreCallsAlone (names_of (front r)) last.references) (sym alone) is.assembled.alone_are));
         };
         watched = λ key. changes.watched key ∙ is.watched key;
         lawful = subst IsLawfulConfig (sym (config ∙ ap (renewed_config told last.config) is.assembled.sources_are)) (config_lawful r told lawful last.config is.lawful);

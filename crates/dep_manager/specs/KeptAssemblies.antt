@@ -11,10 +11,11 @@ use Rattle.xds_name.specs.declared.target.Target.{Target}
 use Rattle.xds_cache.specs.KeptFates.{Watched, known_of}
 use Rattle.config_assembly.specs.Orders.{Name}
 use Rattle.config_assembly.specs.ReachedResources.{Resources, cluster_fate, resources}
-use Rattle.config_assembly.specs.Front.{IsFrontAwaited, front}
+use Rattle.config_assembly.specs.Front.{IsFrontAwaited, front, names_of}
 use Rattle.config_assembly.specs.Reach.{endpoint_name, is_wanted, reach, roots}
 use Rattle.config_assembly.specs.WholeConfigs.{cluster_entry}
 use Rattle.config_assembly.specs.Watching.{has_key}
+use Rattle.dep_manager.specs.CallsAlone.{AreCallsAlone}
 use Rattle.dep_manager.specs.declared.kept_assembly.Kept.{Kept}
 
 -- the Endpoint key of a cluster that has an EDS value
@@ -42,7 +43,11 @@ config_if (Some key) config = None
 
 -- the same with these marks
 abbrev pub kept_with : Kept → List Bool → Kept
-kept_with kept marks = record { references = kept.references; awaited = kept.awaited; config = kept.config; sources = kept.sources; others = marks }
+kept_with kept marks = record { references = kept.references; calls_alone = kept.calls_alone; awaited = kept.awaited; config = kept.config; sources = kept.sources; others = marks }
+
+-- the same where calls refer to these clusters
+abbrev pub kept_for : Kept → List Name → Kept
+kept_for kept references = record { references = references; calls_alone = kept.calls_alone; awaited = kept.awaited; config = kept.config; sources = kept.sources; others = kept.others }
 
 -- what is kept was made of what is known here
 pub record IsAssembledOf (r : Resources) (reached : List Key) (kept : Kept) : Type 0 where
@@ -51,6 +56,7 @@ pub record IsAssembledOf (r : Resources) (reached : List Key) (kept : Kept) : Ty
   pub config_is : kept.config ≡ config_so_far r kept.references
   pub sources_are : kept.sources ≡ map (λ entry. sources_of r entry.state) kept.config.clusters
   pub front_waits : front r ≡ None → IsFrontAwaited r
+  pub alone_are : AreCallsAlone (names_of (front r)) kept.references kept.calls_alone
 
 -- whom the channel calls, what the last update reached, what it made, unless it failed, and the configuration that was handed out
 -- last, if any

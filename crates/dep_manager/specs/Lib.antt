@@ -1,3 +1,4 @@
+pub mod CallsAlone
 pub mod EndpointNews
 pub mod KeptAssemblies
 pub mod Laws

@@ -14,6 +14,7 @@ ghost use Rattle.config_assembly.specs.Reach.{aggregates, missing, on_chains as 
 ghost use Rattle.config_assembly.specs.WholeConfigs.{config_where};
 ghost use Rattle.config_assembly.specs.DepsViews.{seen};
 ghost use Rattle.config_assembly.specs.Watching.{IsKept, IsWatching};
+ghost use Rattle.dep_manager.specs.CallsAlone.{KeepsRoots};
 ghost use Rattle.dep_manager.specs.EndpointNews.{are_endpoints};
 ghost use Rattle.dep_manager.specs.KeptAssemblies.{AreChanges, HaveChanged, IsKeptOf, IsRightBy, kept_with};
 ghost use Rattle.dep_manager.specs.ShownEntries.{StandAsShown, marks_if, marks_left};
@@ -138,17 +139,23 @@ impl Deps {
         Ok(outcome)
     }
 
-    /// Takes out what the last update made, and answers it where these keys that changed are keys of Endpoint resources and
-    /// calls refer to the same clusters.
-    fn take_last(&mut self, changed: &[Key], references: &List<Text>) -> Option<Kept>
+    /// Takes out what the last update made, and answers it where these keys that changed are keys of Endpoint resources and the
+    /// roots stay where calls refer to these clusters.
+    fn take_last(
+        &mut self,
+        alloc: Global,
+        changed: &[Key],
+        references: &List<Text>,
+    ) -> Result<Option<Kept>, Memory>
         ensures rest { self.new ≡ record { target = self.old.target; reached = self.old.reached; last = None; shown = self.old.shown } }
-        ensures kept { IfSome result (λ kept. self.old.last ≡ Some kept) }
-        ensures stands { IfSome result (λ kept. StandAsShown kept.others self.old.shown kept.config) }
-        ensures references { IfSome result (λ kept. references.now ≡ kept.references) }
-        ensures endpoints { IfSome result (λ kept. are_endpoints changed.now ≡ true) }
-        ensures some { (kept : KeptValue) → self.old.last ≡ Some kept → references.now ≡ kept.references → are_endpoints changed.now ≡ true → result ≡ Some kept }
+        ensures references { IfOk result (λ found. IfSome found (λ kept. references.now ≡ kept.references)) }
+        ensures stands { IfOk result (λ found. IfSome found (λ kept. StandAsShown kept.others self.old.shown kept.config)) }
+        ensures endpoints { IfOk result (λ found. IfSome found (λ kept. are_endpoints changed.now ≡ true)) }
+        ensures right { IfOk result (λ found. IfSome found (λ kept. (entries : List AuthorityValue) (known : Watched) → IsRightBy entries known self.old → IsKeptOf entries known self.old.target self.old.reached kept)) }
+        ensures some { IfOk result (λ found. (entries : List AuthorityValue) (known now : Watched) (last : KeptValue) → IsRightBy entries known self.old → AreChanges known now changed.now → self.old.last ≡ Some last → KeepsRoots (resources self.old.target entries now) last.references references.now → are_endpoints changed.now ≡ true → IsSome found) }
     {
-        last_to_follow(self.last.take(), changed, references)
+        let found = last_to_follow(alloc, self.last.take(), changed, references)?;
+        Ok(found)
     }
 
     /// Brings what the last update made up to date, where none but these Endpoint keys changed.
@@ -219,9 +226,11 @@ impl Deps {
     /// What is reached, awaited and configured by what the cache knows, where the references are the clusters that
     /// calls hold or have pinned. From then on the cache watches the reached keys and no others. Each key that it
     /// watched before must have been reached by the last update, or be reached now, and each of which something else is
-    /// known than then must be one of those that changed. Where these are keys of Endpoint resources and calls refer to
-    /// the same clusters, each of them is looked at once and nothing else is, what they don't touch is the same shared
-    /// value as before, and the outcome says that the reached keys stay; else all is made from nothing. With the configuration come marks of the clusters whose
+    /// known than then must be one of those that changed. Where these are keys of Endpoint resources and the roots are those of
+    /// the last update, each of them is looked at once and nothing else is, what they don't touch is the same shared
+    /// value as before, and the outcome says that the reached keys stay; else all is made from nothing. The roots are the clusters
+    /// that the front's host names or that calls refer to; where calls refer to others than at the last update, each of these
+    /// names is looked up. With the configuration come marks of the clusters whose
     /// entries may be other ones than in the configuration that was handed out last: one without a mark has the entry that
     /// stood at its place in that one. After want of memory the cache may watch some of the keys alone.
     pub fn update<L: Ledger>(
@@ -246,11 +255,12 @@ impl Deps {
         ensures others { IfOk result (λ o. IfSome o.config (λ config. StandAsShown o.others self.old.shown config)) }
         ensures shown { IfOk result (λ o. self.new.shown ≡ option_or o.config self.old.shown) }
         ensures kept { IfOk result (λ o. IsRightBy boot.now.authorities cache.new self.new) }
-        ensures still { (last : KeptValue) → self.old.last ≡ Some last → references.now ≡ last.references → changed.now ≡ [] → steps.new ≡ steps.old }
-        ensures cost { (last : KeptValue) → self.old.last ≡ Some last → references.now ≡ last.references → are_endpoints changed.now ≡ true → steps.new ≤ steps.old + length changed.now }
-        ensures follows { (last : KeptValue) → self.old.last ≡ Some last → references.now ≡ last.references → are_endpoints changed.now ≡ true → IfOk result (λ o. o.stays ≡ true) }
+        ensures still { (last : KeptValue) → self.old.last ≡ Some last → KeepsRoots (resources self.old.target boot.now.authorities cache.old) last.references references.now → changed.now ≡ [] → steps.new ≡ steps.old }
+        ensures cost { (last : KeptValue) → self.old.last ≡ Some last → KeepsRoots (resources self.old.target boot.now.authorities cache.old) last.references references.now → are_endpoints changed.now ≡ true → steps.new ≤ steps.old + length changed.now }
+        ensures follows { (last : KeptValue) → self.old.last ≡ Some last → KeepsRoots (resources self.old.target boot.now.authorities cache.old) last.references references.now → are_endpoints changed.now ≡ true → IfOk result (λ o. o.stays ≡ true) }
     {
-        match self.take_last(changed.as_slice(), references) {
+        let found = self.take_last(alloc, changed.as_slice(), references)?;
+        match found {
             Some(last) => {
                 let outcome = self.follow(alloc, last, changed, cache, steps)?;
                 Ok(outcome)

@@ -1,5 +1,5 @@
 //! What is kept from one update to the next.
-ghost use Rattle.std.specs.Prelude.{◌≡◌, ◌≤◌, ◌+◌, List, Option, [], length, map, replicate, true, Some, Err, IfOk, IfSome, OnOk, unwrap_or};
+ghost use Rattle.std.specs.Prelude.{◌≡◌, ◌↔◌, ◌≤◌, ◌+◌, List, Option, [], length, map, replicate, true, Some, Err, IfOk, IfSome, IsSome, IsSomeAnd, OnOk, unwrap_or};
 ghost use Rattle.std.specs.List.Sorted.{IsStrictlySortedBy};
 ghost use Rattle.xc_base.specs.declared.names.Kind.TheVariants.{Listener as ListenerKind};
 ghost use Rattle.xc_base.specs.declared.names.Key.{Key as KeyValue};
@@ -12,15 +12,18 @@ ghost use Rattle.aggregate_expand.specs.Chains.{longest_chain};
 ghost use Rattle.xds_cache.specs.KeptFates.{Watched};
 ghost use Rattle.config_assembly.specs.Orders.{name_cmp, sorted};
 ghost use Rattle.config_assembly.specs.Reach.{aggregates, on_chains as chains_from};
+ghost use Rattle.config_assembly.specs.ReachedResources.{Resources};
 ghost use Rattle.config_assembly.specs.WholeConfigs.{cluster_entry};
 ghost use Rattle.config_assembly.specs.DepsViews.{seen};
+ghost use Rattle.dep_manager.specs.CallsAlone.{KeepsRoots};
 ghost use Rattle.dep_manager.specs.EndpointNews.{are_endpoints};
-ghost use Rattle.dep_manager.specs.KeptAssemblies.{AreChanges, IsAssembledOf, IsKeptOf, config_if, kept_with, least_of};
+ghost use Rattle.dep_manager.specs.KeptAssemblies.{AreChanges, IsAssembledOf, IsKeptOf, config_if, kept_for, kept_with, least_of};
 ghost use Rattle.dep_manager.specs.ShownEntries.{StandAsShown, marks_if, marks_left};
 ghost use Rattle.dep_manager.specs.declared.kept_assembly.Kept.{Kept as KeptValue};
 
 use crate::config_renewal::renewed_config;
 use crate::endpoint_news::{are_endpoints, awaited_of, news_of};
+use crate::kept_roots::{calls_alone, keeps_roots};
 use crate::leaf_sources::{LeafSources, sources_of_all};
 use crate::mark_sets::MarkSet;
 use config_assembly::assemble::config;
@@ -41,6 +44,8 @@ use xds_config::{Config, Front};
 pub struct Kept {
     /// The clusters to which calls referred.
     pub references: List<Text>,
+    /// Those of them that the front's host doesn't name.
+    pub calls_alone: List<Text>,
     /// Those of the reached keys that are awaited.
     pub awaited: BTreeSet<Key>,
     /// The configuration as far as it is known: what is awaited is absent from it.
@@ -124,6 +129,7 @@ pub fn assembly_of<L: Ledger>(
     ensures marked { IfOk result (λ made. made.kept.others ≡ replicate (length made.kept.config.clusters) true) }
 {
     let front = front(sight, steps)?;
+    let calls_alone = calls_alone(sight.alloc, &front, references)?;
     let roots = roots(sight, &front, references)?;
     let on_chains = on_chains(sight, &roots, steps)?;
     let reached = reached_keys(sight, on_chains.as_slice(), steps)?;
@@ -135,6 +141,7 @@ pub fn assembly_of<L: Ledger>(
     let others = MarkSet::all(sight.alloc, config.get().clusters.len())?;
     let kept = Kept {
         references,
+        calls_alone,
         awaited,
         config,
         sources,
@@ -145,21 +152,49 @@ pub fn assembly_of<L: Ledger>(
 
 // ---- from what was kept
 
-/// What was kept, where these keys that changed are keys of Endpoint resources and calls refer to the same clusters.
-pub fn last_to_follow(last: Option<Kept>, changed: &[Key], references: &List<Text>) -> Option<Kept>
-    ensures kept { IfSome result (λ kept. last ≡ Some kept) }
-    ensures references { IfSome result (λ kept. references.now ≡ kept.references) }
-    ensures endpoints { IfSome result (λ kept. are_endpoints changed.now ≡ true) }
-    ensures some { (kept : KeptValue) → last ≡ Some kept → references.now ≡ kept.references → are_endpoints changed.now ≡ true → result ≡ Some kept }
+/// What is kept where calls refer to these clusters, if the roots stay.
+fn kept_for(alloc: Global, last: Kept, references: &List<Text>) -> Result<Option<Kept>, Memory>
+    ensures kept { IfOk result (λ found. IfSome found (λ kept. kept ≡ kept_for last references.now)) }
+    ensures stays { IfOk result (λ found. (r : Resources) (reached : List KeyValue) → IsAssembledOf r reached last → (IsSome found ↔ KeepsRoots r last.references references.now)) }
+{
+    if references.same(&last.references) {
+        return Ok(Some(last));
+    }
+    let clusters = &last.config.get().clusters;
+    if !keeps_roots(
+        alloc,
+        clusters,
+        last.calls_alone.as_slice(),
+        references.as_slice(),
+    )? {
+        return Ok(None);
+    }
+    let mut kept = last;
+    kept.references = copy_names(alloc, references.as_slice())?;
+    Ok(Some(kept))
+}
+
+/// What was kept, where these keys that changed are keys of Endpoint resources and the roots stay where calls refer to these
+/// clusters.
+pub fn last_to_follow(
+    alloc: Global,
+    last: Option<Kept>,
+    changed: &[Key],
+    references: &List<Text>,
+) -> Result<Option<Kept>, Memory>
+    ensures kept { IfOk result (λ found. IfSome found (λ kept. IsSomeAnd last (λ before. kept ≡ kept_for before references.now))) }
+    ensures stays { IfOk result (λ found. IfSome found (λ kept. IfSome last (λ before. (r : Resources) (reached : List KeyValue) → IsAssembledOf r reached before → KeepsRoots r before.references references.now))) }
+    ensures endpoints { IfOk result (λ found. IfSome found (λ kept. are_endpoints changed.now ≡ true)) }
+    ensures some { IfOk result (λ found. (before : KeptValue) (r : Resources) (reached : List KeyValue) → last ≡ Some before → IsAssembledOf r reached before → KeepsRoots r before.references references.now → are_endpoints changed.now ≡ true → IsSome found) }
 {
     let Some(kept) = last else {
-        return None;
+        return Ok(None);
     };
-    if are_endpoints(changed) && references.same(&kept.references) {
-        Some(kept)
-    } else {
-        None
+    if !are_endpoints(changed) {
+        return Ok(None);
     }
+    let found = kept_for(alloc, kept, references)?;
+    Ok(found)
 }
 
 /// What was kept, brought up to date where none but these Endpoint keys changed. Each counts one step. The clusters that they
@@ -180,6 +215,7 @@ pub fn renew<L: Ledger>(
 {
     let Kept {
         references,
+        calls_alone,
         mut awaited,
         config,
         sources,
@@ -189,6 +225,7 @@ pub fn renew<L: Ledger>(
     let renewed = renewed_config(alloc, &news, config, &sources, others)?;
     Ok(Kept {
         references,
+        calls_alone,
         awaited,
         config: renewed.config,
         sources,

@@ -9,6 +9,7 @@ pub mod deps_laws;
 pub mod endpoint_news;
 pub mod entry_renewal;
 pub mod kept_assembly;
+pub mod kept_roots;
 pub mod leaf_sources;
 pub mod mark_sets;
 

@@ -16,9 +16,9 @@ use Rattle.std.proofs.lemmas.Map.Text.{is_eq-slice_cmp}
 use Rattle.std.proofs.lemmas.Slice.Eq.{bytes_eq-Decides}
 use Rattle.config_assembly.specs.Orders.{Name, name_cmp, sorted}
 use Rattle.config_assembly.proofs.OrderLemmas.{any_sorted, put_append}
+use Rattle.config_assembly.proofs.SortedLists.{all_above, sorted_rises}
 use Rattle.totals_writer.specs.Totals.{counted, one_if, times}
 use Rattle.totals_writer.specs.Tallying.{count_of}
-use Rattle.totals_writer.proofs.RisingLemmas.{all_less, sorted_rises}
 
 -- ---- times
 
@@ -102,7 +102,7 @@ module _ (f g : Name → ℕ) (a : Name) (own : g a ≡ f a + 1) (other : (name 
   put_at : (o : Ordering) (x : Name) (xs : List Name) → name_cmp a x ≡ o → AllByRecursion (λ y. name_cmp x y ≡ Less) xs → insert_entry name_cmp (with_counts f xs) a (f a + 1) ≡ with_counts g (insert_key name_cmp xs a)
       → match_ordering o ((a, f a + 1) ∷ (x, f x) ∷ with_counts f xs) ((x, f a + 1) ∷ with_counts f xs) ((x, f x) ∷ insert_entry name_cmp (with_counts f xs) a (f a + 1)) ≡ with_counts g (match_ordering o (a ∷ x ∷ xs) (x ∷ xs) (x ∷ insert_key name_cmp xs a))
   put_at Less x xs is all older =
-      let rest : with_counts f (x ∷ xs) ≡ with_counts g (x ∷ xs) = above (x ∷ xs) (is, all_less name_cmp nat_list_cmp_total a x xs is all) in
+      let rest : with_counts f (x ∷ xs) ≡ with_counts g (x ∷ xs) = above (x ∷ xs) (is, all_above name_cmp nat_list_cmp_total a x xs is all) in
       cc (own, rest)
   put_at Equal x xs is all older =
       let same : a ≡ x = exact_bytes a x is in

@@ -1,4 +1,3 @@
-mod RisingLemmas
 mod CountedLemmas
 mod TallyProofs
 mod TotalsRows

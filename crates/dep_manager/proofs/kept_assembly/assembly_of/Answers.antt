@@ -13,8 +13,9 @@ use Rattle.config_assembly.specs.Front.{front, names_of}
 use Rattle.config_assembly.specs.Reach.{aggregates, is_wanted, keys_with, on_chains, reach, reached_clusters, roots}
 use Rattle.config_assembly.specs.WholeConfigs.{cluster_entry}
 use Rattle.config_assembly.specs.DepsViews.{seen}
+use Rattle.dep_manager.specs.CallsAlone.{AreCallsAlone}
 use Rattle.dep_manager.specs.KeptAssemblies.{sources_of}
-use Rattle.dep_manager.proofs.SortedKeys.{sorted_rises}
+use Rattle.config_assembly.proofs.SortedLists.{sorted_rises}
 use Rattle.dep_manager.proofs.kept_assembly.assembly_of.Goals as goal
 
 pub awaited_of-requires : goal.awaited_of-requires
@@ -40,5 +41,6 @@ returns-clause-assembled g c =
       awaited_are = c.in_ok-awaited.ensures ∙ ap (filter (λ key. is_wanted (r.fate key))) c.as_slice-2.ensures;
       config_is = c.in_ok-config.ensures.config ∙ ap₂ config_as c.in_ok-front.ensures.front (ap (map (cluster_entry r)) all) ∙ ap (λ names. config_as (front r) (map (cluster_entry r) (roots r names))) (sym c.in_ok-references.ensures);
       sources_are = c.in_ok-sources.ensures ∙ ap (map (λ entry. sources_of r entry.state)) (ap (λ config. config.clusters) c.get.ensures);
+      alone_are = subst (λ found. AreCallsAlone (names_of found) c.in_ok-references.references c.in_ok-calls_alone.calls_alone) c.in_ok-front.ensures.front (subst (λ names. AreCallsAlone (names_of c.in_ok-front.front) names c.in_ok-calls_alone.calls_alone) (sym c.in_ok-references.ensures) c.in_ok-calls_alone.ensures);
       front_waits = λ none. c.in_ok-front.ensures.awaited (c.in_ok-front.ensures.front ∙ none);
     }

@@ -1,4 +1,4 @@
-use Rattle.std.proofs.Common.{length, sym, ap, ◌∙◌, subst}
+use Rattle.std.proofs.Common.{◌≡◌, true, length, sym, ap, ◌∙◌, subst}
 use Rattle.std.specs.Prelude.{IfSome}
 use Rattle.std.specs.Option.{option_or}
 use Rattle.std.proofs.lemmas.Bool.{true≢false}
@@ -8,7 +8,8 @@ use Rattle.config_assembly.specs.Watching.{IsKept}
 use Rattle.dep_manager.specs.EndpointNews.{are_endpoints}
 use Rattle.dep_manager.specs.ShownEntries.{StandAsShown}
 use Rattle.dep_manager.specs.UpdateOutcomes.{IsOutcomeBy}
-use Rattle.dep_manager.proofs.KeptLemmas.{kept_at, none_counted}
+use Rattle.dep_manager.proofs.KeptLemmas.{none_counted}
+use Rattle.dep_manager.proofs.RootLemmas.{kept_at, none_found}
 use Rattle.dep_manager.proofs.deps.Deps.update.Goals as goal
 
 pub begin-requires : goal.begin-requires
@@ -16,54 +17,54 @@ begin-requires g c =
     subst (λ d. IsKept c.args.cache.now d.reached (reach (resources d.target c.args.boot.now.authorities c.args.cache.now) c.args.references.now)) (sym c.take_last.ensures.rest) c.requires.watched
 
 pub follow-requires-clause-endpoints : goal.follow-requires-clause-endpoints
-follow-requires-clause-endpoints g c = ap are_endpoints (sym c.as_slice.ensures) ∙ c.in-Some.ensures.endpoints
+follow-requires-clause-endpoints g c = ap are_endpoints (sym c.as_slice.ensures) ∙ subst (λ o. IfSome o (λ kept. are_endpoints c.as_slice.result.now ≡ true)) c.in-Some.is c.in_ok-found.ensures.endpoints
 
 pub follow-requires-clause-stands : goal.follow-requires-clause-stands
-follow-requires-clause-stands g c = subst (λ d. StandAsShown c.in-Some.last.others d.shown c.in-Some.last.config) (sym c.take_last.ensures.rest) c.in-Some.ensures.stands
+follow-requires-clause-stands g c = subst (λ d. StandAsShown c.in-Some.last.others d.shown c.in-Some.last.config) (sym c.take_last.ensures.rest) (subst (λ o. IfSome o (λ kept. StandAsShown kept.others c.args.self.now.shown kept.config)) c.in-Some.is c.in_ok-found.ensures.stands)
 
 pub returns-in_ok-outcome-in-Some-clause-reached : goal.returns-in_ok-outcome-in-Some-clause-reached
 returns-in_ok-outcome-in-Some-clause-reached g c =
-    let (known, is, changes) = kept_at c.args.boot.now.authorities c.args.self.now c.take_last.new.self c.args.cache.now c.args.changed.now c.in-Some.last c.take_last.ensures.rest c.in-Some.ensures.kept c.requires.changed in
+    let (known, is, changes) = kept_at c.args.boot.now.authorities c.args.self.now c.take_last.new.self c.args.cache.now c.args.changed.now c.in_ok-found.found c.in-Some.last c.in-Some.is c.take_last.ensures.rest c.in_ok-found.ensures.right c.requires.changed in
     (subst (λ d. IsOutcomeBy (resources d.target c.args.boot.now.authorities c.args.cache.now) c.args.references.now c.in_ok-outcome-in-Some.outcome) c.take_last.ensures.rest
-    (subst (λ names. IsOutcomeBy (resources c.take_last.new.self.target c.args.boot.now.authorities c.args.cache.now) names c.in_ok-outcome-in-Some.outcome) (sym c.in-Some.ensures.references)
+    (subst (λ names. IsOutcomeBy (resources c.take_last.new.self.target c.args.boot.now.authorities c.args.cache.now) names c.in_ok-outcome-in-Some.outcome) (sym (subst (λ o. IfSome o (λ kept. c.args.references.now ≡ kept.references)) c.in-Some.is c.in_ok-found.ensures.references))
     (c.in_ok-outcome-in-Some.ensures.outcome c.args.boot.now.authorities known is changes))).reached_are
 
 pub returns-in_ok-outcome-in-Some-clause-missing : goal.returns-in_ok-outcome-in-Some-clause-missing
 returns-in_ok-outcome-in-Some-clause-missing g c =
-    let (known, is, changes) = kept_at c.args.boot.now.authorities c.args.self.now c.take_last.new.self c.args.cache.now c.args.changed.now c.in-Some.last c.take_last.ensures.rest c.in-Some.ensures.kept c.requires.changed in
+    let (known, is, changes) = kept_at c.args.boot.now.authorities c.args.self.now c.take_last.new.self c.args.cache.now c.args.changed.now c.in_ok-found.found c.in-Some.last c.in-Some.is c.take_last.ensures.rest c.in_ok-found.ensures.right c.requires.changed in
     (subst (λ d. IsOutcomeBy (resources d.target c.args.boot.now.authorities c.args.cache.now) c.args.references.now c.in_ok-outcome-in-Some.outcome) c.take_last.ensures.rest
-    (subst (λ names. IsOutcomeBy (resources c.take_last.new.self.target c.args.boot.now.authorities c.args.cache.now) names c.in_ok-outcome-in-Some.outcome) (sym c.in-Some.ensures.references)
+    (subst (λ names. IsOutcomeBy (resources c.take_last.new.self.target c.args.boot.now.authorities c.args.cache.now) names c.in_ok-outcome-in-Some.outcome) (sym (subst (λ o. IfSome o (λ kept. c.args.references.now ≡ kept.references)) c.in-Some.is c.in_ok-found.ensures.references))
     (c.in_ok-outcome-in-Some.ensures.outcome c.args.boot.now.authorities known is changes))).missing_is
 
 pub returns-in_ok-outcome-in-Some-clause-config : goal.returns-in_ok-outcome-in-Some-clause-config
 returns-in_ok-outcome-in-Some-clause-config g c =
-    let (known, is, changes) = kept_at c.args.boot.now.authorities c.args.self.now c.take_last.new.self c.args.cache.now c.args.changed.now c.in-Some.last c.take_last.ensures.rest c.in-Some.ensures.kept c.requires.changed in
+    let (known, is, changes) = kept_at c.args.boot.now.authorities c.args.self.now c.take_last.new.self c.args.cache.now c.args.changed.now c.in_ok-found.found c.in-Some.last c.in-Some.is c.take_last.ensures.rest c.in_ok-found.ensures.right c.requires.changed in
     (subst (λ d. IsOutcomeBy (resources d.target c.args.boot.now.authorities c.args.cache.now) c.args.references.now c.in_ok-outcome-in-Some.outcome) c.take_last.ensures.rest
-    (subst (λ names. IsOutcomeBy (resources c.take_last.new.self.target c.args.boot.now.authorities c.args.cache.now) names c.in_ok-outcome-in-Some.outcome) (sym c.in-Some.ensures.references)
+    (subst (λ names. IsOutcomeBy (resources c.take_last.new.self.target c.args.boot.now.authorities c.args.cache.now) names c.in_ok-outcome-in-Some.outcome) (sym (subst (λ o. IfSome o (λ kept. c.args.references.now ≡ kept.references)) c.in-Some.is c.in_ok-found.ensures.references))
     (c.in_ok-outcome-in-Some.ensures.outcome c.args.boot.now.authorities known is changes))).config_is
 
 pub returns-in_ok-outcome-in-Some-clause-whole : goal.returns-in_ok-outcome-in-Some-clause-whole
 returns-in_ok-outcome-in-Some-clause-whole g c =
-    let (known, is, changes) = kept_at c.args.boot.now.authorities c.args.self.now c.take_last.new.self c.args.cache.now c.args.changed.now c.in-Some.last c.take_last.ensures.rest c.in-Some.ensures.kept c.requires.changed in
+    let (known, is, changes) = kept_at c.args.boot.now.authorities c.args.self.now c.take_last.new.self c.args.cache.now c.args.changed.now c.in_ok-found.found c.in-Some.last c.in-Some.is c.take_last.ensures.rest c.in_ok-found.ensures.right c.requires.changed in
     (subst (λ d. IsOutcomeBy (resources d.target c.args.boot.now.authorities c.args.cache.now) c.args.references.now c.in_ok-outcome-in-Some.outcome) c.take_last.ensures.rest
-    (subst (λ names. IsOutcomeBy (resources c.take_last.new.self.target c.args.boot.now.authorities c.args.cache.now) names c.in_ok-outcome-in-Some.outcome) (sym c.in-Some.ensures.references)
+    (subst (λ names. IsOutcomeBy (resources c.take_last.new.self.target c.args.boot.now.authorities c.args.cache.now) names c.in_ok-outcome-in-Some.outcome) (sym (subst (λ o. IfSome o (λ kept. c.args.references.now ≡ kept.references)) c.in-Some.is c.in_ok-found.ensures.references))
     (c.in_ok-outcome-in-Some.ensures.outcome c.args.boot.now.authorities known is changes))).whole
 
 pub returns-in_ok-outcome-in-Some-clause-lawful : goal.returns-in_ok-outcome-in-Some-clause-lawful
 returns-in_ok-outcome-in-Some-clause-lawful g c =
-    let (known, is, changes) = kept_at c.args.boot.now.authorities c.args.self.now c.take_last.new.self c.args.cache.now c.args.changed.now c.in-Some.last c.take_last.ensures.rest c.in-Some.ensures.kept c.requires.changed in
+    let (known, is, changes) = kept_at c.args.boot.now.authorities c.args.self.now c.take_last.new.self c.args.cache.now c.args.changed.now c.in_ok-found.found c.in-Some.last c.in-Some.is c.take_last.ensures.rest c.in_ok-found.ensures.right c.requires.changed in
     (subst (λ d. IsOutcomeBy (resources d.target c.args.boot.now.authorities c.args.cache.now) c.args.references.now c.in_ok-outcome-in-Some.outcome) c.take_last.ensures.rest
-    (subst (λ names. IsOutcomeBy (resources c.take_last.new.self.target c.args.boot.now.authorities c.args.cache.now) names c.in_ok-outcome-in-Some.outcome) (sym c.in-Some.ensures.references)
+    (subst (λ names. IsOutcomeBy (resources c.take_last.new.self.target c.args.boot.now.authorities c.args.cache.now) names c.in_ok-outcome-in-Some.outcome) (sym (subst (λ o. IfSome o (λ kept. c.args.references.now ≡ kept.references)) c.in-Some.is c.in_ok-found.ensures.references))
     (c.in_ok-outcome-in-Some.ensures.outcome c.args.boot.now.authorities known is changes))).lawful
 
 pub returns-in_ok-outcome-in-Some-clause-watched : goal.returns-in_ok-outcome-in-Some-clause-watched
 returns-in_ok-outcome-in-Some-clause-watched g c =
-    let (known, is, changes) = kept_at c.args.boot.now.authorities c.args.self.now c.take_last.new.self c.args.cache.now c.args.changed.now c.in-Some.last c.take_last.ensures.rest c.in-Some.ensures.kept c.requires.changed in
+    let (known, is, changes) = kept_at c.args.boot.now.authorities c.args.self.now c.take_last.new.self c.args.cache.now c.args.changed.now c.in_ok-found.found c.in-Some.last c.in-Some.is c.take_last.ensures.rest c.in_ok-found.ensures.right c.requires.changed in
     c.in_ok-outcome-in-Some.ensures.watched c.args.boot.now.authorities known is changes
 
 pub returns-in_ok-outcome-in-Some-clause-kept : goal.returns-in_ok-outcome-in-Some-clause-kept
 returns-in_ok-outcome-in-Some-clause-kept g c =
-    let (known, is, changes) = kept_at c.args.boot.now.authorities c.args.self.now c.take_last.new.self c.args.cache.now c.args.changed.now c.in-Some.last c.take_last.ensures.rest c.in-Some.ensures.kept c.requires.changed in
+    let (known, is, changes) = kept_at c.args.boot.now.authorities c.args.self.now c.take_last.new.self c.args.cache.now c.args.changed.now c.in_ok-found.found c.in-Some.last c.in-Some.is c.take_last.ensures.rest c.in_ok-found.ensures.right c.requires.changed in
     c.in_ok-outcome-in-Some.ensures.kept c.args.boot.now.authorities known is changes
 
 pub returns-in_ok-outcome-in-Some-clause-held : goal.returns-in_ok-outcome-in-Some-clause-held
@@ -93,16 +94,16 @@ returns-in_ok-outcome-in-None-clause-lawful g c =
     (subst (λ d. IsOutcomeBy (resources d.target c.args.boot.now.authorities c.args.cache.now) c.args.references.now c.in_ok-outcome-in-None.outcome) c.take_last.ensures.rest c.in_ok-outcome-in-None.ensures.outcome).lawful
 
 pub returns-in_ok-outcome-in-None-clause-still : goal.returns-in_ok-outcome-in-None-clause-still
-returns-in_ok-outcome-in-None-clause-still g c last kept same none = absurd (cc (sym c.in-None.is ∙ c.take_last.ensures.some last kept same (ap are_endpoints (c.as_slice.ensures ∙ none))))
+returns-in_ok-outcome-in-None-clause-still g c last kept same none = absurd (none_found c.args.boot.now.authorities c.args.self.now c.args.cache.now c.as_slice.result.now c.args.changed.now c.args.references.now c.in_ok-found.found last c.as_slice.ensures c.in_ok-found.ensures.some c.in-None.is c.requires.changed kept same (ap are_endpoints none))
 
 pub returns-in_ok-outcome-in-None-clause-cost : goal.returns-in_ok-outcome-in-None-clause-cost
-returns-in_ok-outcome-in-None-clause-cost g c last kept same endpoints = absurd (cc (sym c.in-None.is ∙ c.take_last.ensures.some last kept same (ap are_endpoints c.as_slice.ensures ∙ endpoints)))
+returns-in_ok-outcome-in-None-clause-cost g c last kept same endpoints = absurd (none_found c.args.boot.now.authorities c.args.self.now c.args.cache.now c.as_slice.result.now c.args.changed.now c.args.references.now c.in_ok-found.found last c.as_slice.ensures c.in_ok-found.ensures.some c.in-None.is c.requires.changed kept same endpoints)
 
 pub returns-in_err-outcome-in-None-clause-still : goal.returns-in_err-outcome-in-None-clause-still
-returns-in_err-outcome-in-None-clause-still g c last kept same none = absurd (cc (sym c.in-None.is ∙ c.take_last.ensures.some last kept same (ap are_endpoints (c.as_slice.ensures ∙ none))))
+returns-in_err-outcome-in-None-clause-still g c last kept same none = absurd (none_found c.args.boot.now.authorities c.args.self.now c.args.cache.now c.as_slice.result.now c.args.changed.now c.args.references.now c.in_ok-found.found last c.as_slice.ensures c.in_ok-found.ensures.some c.in-None.is c.requires.changed kept same (ap are_endpoints none))
 
 pub returns-in_err-outcome-in-None-clause-cost : goal.returns-in_err-outcome-in-None-clause-cost
-returns-in_err-outcome-in-None-clause-cost g c last kept same endpoints = absurd (cc (sym c.in-None.is ∙ c.take_last.ensures.some last kept same (ap are_endpoints c.as_slice.ensures ∙ endpoints)))
+returns-in_err-outcome-in-None-clause-cost g c last kept same endpoints = absurd (none_found c.args.boot.now.authorities c.args.self.now c.args.cache.now c.as_slice.result.now c.args.changed.now c.args.references.now c.in_ok-found.found last c.as_slice.ensures c.in_ok-found.ensures.some c.in-None.is c.requires.changed kept same endpoints)
 
 pub returns-in_ok-outcome-in-Some-clause-still : goal.returns-in_ok-outcome-in-Some-clause-still
 returns-in_ok-outcome-in-Some-clause-still g c last kept same none = none_counted c.args.steps.now c.follow.new.steps (length c.args.changed.now) c.follow.ensures.cost c.follow.ensures.rises (ap length none)
@@ -140,4 +141,4 @@ pub returns-in_ok-outcome-in-Some-clause-follows : goal.returns-in_ok-outcome-in
 returns-in_ok-outcome-in-Some-clause-follows g c last kept same endpoints = c.in_ok-outcome-in-Some.ensures.stays.0
 
 pub returns-in_ok-outcome-in-None-clause-follows : goal.returns-in_ok-outcome-in-None-clause-follows
-returns-in_ok-outcome-in-None-clause-follows g c last kept same endpoints = absurd (cc (sym c.in-None.is ∙ c.take_last.ensures.some last kept same (ap are_endpoints c.as_slice.ensures ∙ endpoints)))
+returns-in_ok-outcome-in-None-clause-follows g c last kept same endpoints = absurd (none_found c.args.boot.now.authorities c.args.self.now c.args.cache.now c.as_slice.result.now c.args.changed.now c.args.references.now c.in_ok-found.found last c.as_slice.ensures c.in_ok-found.ensures.some c.in-None.is c.requires.changed kept same endpoints)
