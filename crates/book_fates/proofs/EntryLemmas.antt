@@ -123,7 +123,8 @@ runs_by true true o some = (refl, refl)
 runs_by true false o some = absurd (cc some)
 runs_by false u o some = absurd (cc some)
 
-known_awaited : (o : Option Known) → is_awaited o ≡ true → IsSome o
+-- what is awaited is known
+pub known_awaited : (o : Option Known) → is_awaited o ≡ true → IsSome o
 known_awaited None is = absurd (cc is)
 known_awaited (Some known) is = refl
 

@@ -32,7 +32,7 @@ use Rattle.book_fates.specs.Timing.{known_in, is_awaited, timed_at, AreAllTimed,
 use Rattle.book_fates.specs.FatesKept.{IsKeptAt, IsLeftBy, IsMarkedAt, keys_in, is_moment}
 use Rattle.book_fates.proofs.StepLemmas.{knows_marked, knows_watched}
 use Rattle.book_fates.proofs.PartLemmas.{apart}
-use Rattle.book_fates.proofs.EntryLemmas.{entry_timed, runs_by}
+use Rattle.book_fates.proofs.EntryLemmas.{entry_timed, known_awaited, runs_by}
 
 -- ---- the keys that are watched
 
@@ -115,10 +115,6 @@ and_true : (a b : Bool) → a ≡ true → b ≡ true → (a && b) ≡ true
 and_true true b x y = y
 and_true false b x y = x
 
-some_of : (o : Option Known) → is_awaited o ≡ true → IsSome o
-some_of None is = absurd (cc is)
-some_of (Some known) is = refl
-
 absent_out : (h : Bool) (o : Option Known) → IsSome o → h ≡ true → not (is_wanted (unwrap_or (option_map (λ known. if h then Known.Absent else known) o) Known.Wanted)) ≡ true
 absent_out true None some is = absurd (cc some)
 absent_out true (Some known) some is = refl
@@ -129,7 +125,7 @@ pub lost_out : (past : List Entry) (ps : List Page) (keys before : List Key) (tu
 lost_out past ps keys before turn old rows key (Home.Nowhere fault) knows stepped are runs has = absurd (cc runs)
 lost_out past ps keys before turn old rows key (Home.At a) knows stepped are runs has =
     let (was, up) = runs_by (is_awaited (known_in (watched_now ps) key)) (is_up a past) (first_asked ps a key) runs in
-    let some : IsSome (known_in (watched_now ps) key) = some_of (known_in (watched_now ps) key) was in
+    let some : IsSome (known_in (watched_now ps) key) = known_awaited (known_in (watched_now ps) key) was in
     and_true (has_key before key) (is_turned turn (Home.At a) || not (is_wanted (unwrap_or (known_of rows key) Known.Wanted))) (has_kept (watched_now ps) before key are some)
     (or_true (is_turned turn (Home.At a)) (not (is_wanted (unwrap_or (known_of rows key) Known.Wanted)))
     (ap (λ o. not (is_wanted (unwrap_or o Known.Wanted))) (stepped key) ∙ absent_out (has_key keys key) (known_of old key) (subst (λ o. IsSome o) (sym (knows key)) some) has))

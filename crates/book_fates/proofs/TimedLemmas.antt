@@ -28,7 +28,7 @@ use Rattle.book_fates.specs.Delivered.{HasTouched, delivered_in, told_as}
 use Rattle.book_fates.specs.FateSteps.{Knows, Stepped, brings, out_among, told_step}
 use Rattle.book_fates.specs.Timing.{AreAllTimed, AreTimed, IsTimed, Stopped, StartedBy, StoppedBy, asks_at, first_among, is_awaited, known_in, lost_among, timed_at, unreached_among}
 use Rattle.book_fates.specs.FatesKept.{IsLeftBy, keys_in}
-use Rattle.book_fates.proofs.EntryLemmas.{runs_by, start_hit, start_miss}
+use Rattle.book_fates.proofs.EntryLemmas.{known_awaited, runs_by, start_hit, start_miss}
 use Rattle.book_fates.proofs.KeptLemmas.{has_kept}
 use Rattle.book_fates.proofs.QuietLemmas.{runs_wanted, same_stop}
 use Rattle.book_fates.proofs.TimeLemmas.{wanted_before}
@@ -107,6 +107,22 @@ none_starts timers reached sent rows now all key = stands (has_key reached key) 
     stands true true true None is = absurd (cc (is refl refl))
     stands true true true (Some at) is = refl
 
+-- without a request, no key is asked for
+asks_none : (key : Key) (home : Home) → asks_at [] key home ≡ false
+asks_none key (Home.At a) = refl
+asks_none key (Home.Nowhere fault) = refl
+
+-- where nothing is sent, none starts
+pub unsent_starts : (timers : Running) (reached : List Key) (sent : List Sent) (rows : Rows) (now : Time) → sent ≡ [] → StartedBy timers timers (first_among reached sent rows) now
+unsent_starts timers reached sent rows now none key =
+    stands (has_key reached key) (is_wanted (fate_of rows key)) (asks_at sent key key.home) (started_at timers key) (ap (λ xs. asks_at xs key key.home) none ∙ asks_none key key.home)
+  where
+    stands : (h w a : Bool) (o : Option Time) → a ≡ false → o ≡ (if h && (w && a) then Some (unwrap_or o now) else o)
+    stands false w a o is = refl
+    stands true false a o is = refl
+    stands true true false o is = refl
+    stands true true true o is = absurd (cc is)
+
 -- where none is wanted, each one that is has a timer
 pub none_untimed : (rows : Rows) (timers : Running) (keys : List Key) → ((key : Key) → has_key keys key ≡ true → is_wanted (fate_of rows key) ≡ false) → AreAllTimed keys rows timers
 none_untimed rows timers keys none key has wanted = absurd (cc (wanted, none key has))
@@ -159,15 +175,11 @@ not_lost_here false r w is none = out r w (is refl)
     out false true is = refl
     out r false is = absurd (cc is)
 
-some_awaited : (o : Option Known) → is_awaited o ≡ true → IsSome o
-some_awaited None is = absurd (cc is)
-some_awaited (Some known) is = refl
-
 runs_watched : (past : List Entry) (ps : List Page) (key : Key) (home : Home) → IsSome (timed_at past ps key home) → IsSome (known_in (watched_now ps) key)
 runs_watched past ps key (Home.Nowhere fault) runs = absurd (cc runs)
 runs_watched past ps key (Home.At a) runs =
     let (was, up) = runs_by (is_awaited (known_in (watched_now ps) key)) (is_up a past) (first_asked ps a key) runs in
-    some_awaited (known_in (watched_now ps) key) was
+    known_awaited (known_in (watched_now ps) key) was
 
 -- the timers that end by it are those of keys that it touches
 pub touched_lost : (a : Answered) (past : List Entry) (ps : List Page) (timers after : Running) (touched before : List Key) (old rows : Rows) → AreTimed past ps timers → Knows old (watched_now ps) → before ≡ keys_in (watched_now ps) →

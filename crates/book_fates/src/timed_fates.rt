@@ -1,5 +1,5 @@
 //! The fates of watched keys, and their timers.
-ghost use Rattle.std.specs.Prelude.{◌≡◌, ◌≤◌, ◌+◌, ◌∷◌, List, Option, Some, None, true, false, IsOk, OnOk, IfOk, length, option_map};
+ghost use Rattle.std.specs.Prelude.{◌≡◌, ◌≤◌, ◌+◌, ◌∷◌, [], List, Option, Some, None, true, false, IsOk, OnOk, IfOk, length, option_map};
 ghost use Rattle.xc_base.specs.declared.names.Authority.{Authority as AuthorityValue};
 ghost use Rattle.xc_base.specs.declared.names.Time.{Time as TimeValue};
 ghost use Rattle.call_journal.specs.declared.event.DriverEvent.{DriverEvent as EventValue};
@@ -145,7 +145,7 @@ impl Fates {
     }
 
     /// Starts the timers of the reached keys that are wanted and asked for first. Where none is awaited it looks at no key, nor
-    /// where the same keys stay reached and each one that is awaited has a timer.
+    /// where the same keys stay reached and each one that is awaited has a timer, nor where nothing is sent.
     fn start<L: Ledger>(
         &mut self,
         next: &Reached,
@@ -158,12 +158,17 @@ impl Fates {
         ensures started { OnOk result (StayTimed self.old next.now → StartedBy self.old.timers self.new.timers (first_among next.now.keys sent.now self.old.cache) now) }
         ensures timed { OnOk result (StayTimed self.old next.now → self.new.are_timed ≡ true → AreAllTimed next.now.keys self.old.cache self.new.timers) }
         ensures still { next.now.stays ≡ true → self.old.are_timed ≡ true → steps.new ≡ steps.old }
+        ensures unsent { sent.now ≡ [] → steps.new ≡ steps.old }
     {
         if !next.awaits {
             self.are_timed = true;
             return Ok(());
         }
         if next.stays && self.are_timed {
+            return Ok(());
+        }
+        if sent.is_empty() {
+            self.are_timed = false;
             return Ok(());
         }
         self.are_timed = start_first(
@@ -179,8 +184,8 @@ impl Fates {
 
     /// Starts timers once the cache watches what is reached and the requests are known, and the timers of what is no longer
     /// reached ended: a wanted key that is asked for first has one from now on. Where none is awaited it looks at no key, nor
-    /// where the same keys stay reached and each one that is awaited has a timer. It fails for want of memory alone, and then
-    /// nothing is said of what is kept.
+    /// where the same keys stay reached and each one that is awaited has a timer, nor where nothing is sent. It fails for want
+    /// of memory alone, and then nothing is said of what is kept.
     pub fn settle<L: Ledger>(
         &mut self,
         next: Reached,
@@ -192,6 +197,7 @@ impl Fates {
         requires stays { next.stays ≡ true → next.keys ≡ self.old.reached }
         ensures cache { OnOk result (self.new.cache ≡ self.old.cache) }
         ensures still { next.stays ≡ true → self.old.are_timed ≡ true → steps.new ≡ steps.old }
+        ensures unsent { sent.now ≡ [] → steps.new ≡ steps.old }
         ensures kept { OnOk result ((s : Setting) (c : Came) (past : List EntryValue) (ps : List PageValue) (page : PageValue) (turn : Option AuthorityValue) (marks : FatesValue) → IsMarkedAt s c past ps now turn marks → IsLeftBy marks self.old next.keys → IsWatching marks.cache self.old.cache next.keys → page.watched ≡ watch (marked s c past ps now) next.keys → page.now ≡ now → TurnsAt turn page → AreAskedBy sent.now next.keys past page → IsKeptAt (page.entry ∷ past) (page ∷ ps) self.new) }
     {
         self.start(&next, sent, now, steps)?;
