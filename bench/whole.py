@@ -30,6 +30,7 @@ KINDS = {
     "load": ("`load N`", "rounds", 1_000),
     "gen": ("`run` of what `gen N` writes", "rounds", 1_000),
     "mixed": ("1,024 clusters: Endpoint responses of 120 of them, each with five calls and fifty picks", "responses", 200),
+    "held_calls": ("1,024 clusters: calls that each hold one while an endpoint reports", "calls", 4_000),
     "picks": ("calls with a pick each", "calls", 65_536),
     "endpoint_lines": ("1,024 clusters: reports on endpoints", "lines", 19_996),
     "endpoint_responses": ("1,024 clusters: Endpoint responses of 120 of them", "responses", 200),

@@ -145,6 +145,15 @@ def mixed(count):
             yield f"c 1 commit {call}"
 
 
+def held_calls(count, many=MANY):
+    """So many calls, each of which holds one of 1,024 clusters, or of so many, while an endpoint reports."""
+    yield from whole(many_clusters(many)) + ready(many)
+    for turn in range(count):
+        yield f"c 1 start {turn} {turn} /c{turn * 7 % many}/"
+        yield f"d endpoint {host(turn % many)}:80 {'ready' if turn // many % 2 else 'failing'}"
+        yield f"c 1 commit {turn}"
+
+
 def filled(line, count):
     """A session of this line alone, so many times."""
     return itertools.chain(HEAD, itertools.repeat(line, count))
@@ -183,8 +192,8 @@ def endpoints(count):
 
 
 KINDS = {one.__name__: one for one in (
-    calls, picks, picks_of_a_call, calls_by_routes, endpoint_lines, endpoint_responses, first_endpoints, updates, mixed, commits,
-    sweeps, pieces, resources, endpoints)}
+    calls, picks, picks_of_a_call, calls_by_routes, endpoint_lines, endpoint_responses, first_endpoints, updates, mixed, held_calls,
+    commits, sweeps, pieces, resources, endpoints)}
 
 
 def text(lines):
