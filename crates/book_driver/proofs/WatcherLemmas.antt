@@ -1,6 +1,6 @@
 -- What is kept of streams and watched keys, through an entry.
 use Rattle.std.proofs.Common.{◌≡◌, ℕ, List, [], ◌∷◌, map, Option, Some, None, refl, sym, ap, ap₂, ◌∙◌, subst}
-use Rattle.std.specs.Prelude.{◌↔◌, ◌||◌, Bool, true, false, IsNone, IsSome, is_some, if◌then◌else◌}
+use Rattle.std.specs.Prelude.{◌↔◌, ◌||◌, Bool, true, false, IfSome, IsNone, IsSome, is_some, if◌then◌else◌}
 use Rattle.std.specs.List.{find}
 use Rattle.std.specs.Option.{option_or}
 use Rattle.xc_base.specs.declared.names.Home.{Home}
@@ -27,7 +27,7 @@ use Rattle.book_trees.specs.xds_history.Fates.{marked, watch, with_mark}
 use Rattle.driver_step.specs.book_streams.StreamsKept.{states_of, states_with, watched_keys}
 use Rattle.driver_step.specs.book_fates.declared.timed_fates.Fates.{Fates}
 use Rattle.driver_step.specs.book_fates.FateSteps.{Knows, WatchesOnly}
-use Rattle.driver_step.specs.book_fates.Timing.{AreAskedBy, NoneWanted, StoppedBy, TurnsAt, timed_at, unreached_among}
+use Rattle.driver_step.specs.book_fates.Timing.{AreAskedBy, AreTimedBut, NoneWanted, StoppedBy, TurnsAt, timed_at, unreached_among}
 use Rattle.xc_keys.specs.Keys.{is_key}
 use Rattle.xc_keys.proofs.KeyLemmas.{same_key}
 use Rattle.xds_cache.specs.declared.fate.Known.{Known}
@@ -74,9 +74,9 @@ only_by s past c now w by = marked_only s c past (pages s past) now (turned_by c
 -- ---- what is reached
 
 pub reached_by : (s : Setting) (past : List Entry) (c : Came) (now : Time) (reached : List Key) (old new : Watcher) → IsHeardBy s past c now old → new.boot ≡ old.boot → new.streams ≡ old.streams →
-    new.fates.timers ≡ old.fates.timers → new.fates.reached ≡ old.fates.reached → new.fates.are_timed ≡ old.fates.are_timed → new.deps.target ≡ old.deps.target → new.deps.reached ≡ reached → IsWatching old.fates.cache new.fates.cache reached →
+    new.fates.timers ≡ old.fates.timers → new.fates.reached ≡ old.fates.reached → new.fates.untimed ≡ old.fates.untimed → new.deps.target ≡ old.deps.target → new.deps.reached ≡ reached → IsWatching old.fates.cache new.fates.cache reached →
     IsRightBy new.boot.authorities new.fates.cache new.deps → IsReachedBy s past c now reached new
-reached_by s past c now reached old new by boot streams timers before waits target keys watching right =
+reached_by s past c now reached old new by boot streams timers before untimed target keys watching right =
     let same : setting_by new ≡ setting_by old = ap₂ setting_of boot target in record {
       setting_is = by.setting_is ∙ sym same;
       streams_are = ap (λ w. w.states) streams ∙ by.streams_are;
@@ -84,7 +84,7 @@ reached_by s past c now reached old new by boot streams timers before waits targ
       marked = by.fates_are;
       timers_are = timers;
       before_are = before;
-      waits_are = waits;
+      untimed_are = untimed;
       watching = watching;
       keys_are = keys;
       told_are = ap (λ w. w.told) streams ∙ by.told_are ∙ sym before;
@@ -150,10 +150,10 @@ pub keys_by : (s : Setting) (c : Came) (past : List Entry) (a : Assembly) (reach
 keys_by s c past a reached is = sym is ∙ sym (keys_watched (marks_with s c past (pages s past)) a.reached)
 
 -- the timers of what is no longer reached ended
-pub left_by : (marks old new : Fates) (reached : List Key) → old.timers ≡ marks.timers → old.reached ≡ marks.reached → old.are_timed ≡ marks.are_timed → IsLeftBy old new reached → IsLeftBy marks new reached
-left_by marks old new reached timers keys waits by = record {
+pub left_by : (marks old new : Fates) (reached : List Key) → old.timers ≡ marks.timers → old.reached ≡ marks.reached → old.untimed ≡ marks.untimed → IsLeftBy old new reached → IsLeftBy marks new reached
+left_by marks old new reached timers keys untimed by = record {
   keys_are = by.keys_are ∙ keys;
-  timed_is = by.timed_is ∙ waits;
+  untimed_are = by.untimed_are ∙ untimed;
   stopped = subst (λ ts. StoppedBy ts new.timers (unreached_among marks.reached reached)) timers (subst (λ ks. StoppedBy old.timers new.timers (unreached_among ks reached)) keys by.stopped);
 }
 
@@ -199,10 +199,10 @@ first_timed : (key : Key) (home : Home) → None ≡ timed_at [] [] key home
 first_timed key (Home.At a) = refl
 first_timed key (Home.Nowhere fault) = refl
 
-pub first_kept : (f : Fates) → f.cache ≡ [] → f.timers ≡ [] → f.reached ≡ [] → f.are_timed ≡ false → IsKeptAt [] [] f
+pub first_kept : (f : Fates) → f.cache ≡ [] → f.timers ≡ [] → f.reached ≡ [] → f.untimed ≡ None → IsKeptAt [] [] f
 first_kept f cache timers reached untimed = record {
   knows = λ key. ap (λ rows. known_of rows key) cache;
   keys_are = reached;
   timed = λ key. ap (λ running. started_at running key) timers ∙ first_timed key key.home;
-  waits = λ timed. absurd (cc (timed, untimed));
+  waits = subst (λ o. IfSome o (λ keys. AreTimedBut keys f.reached f.cache f.timers)) (sym untimed) tt;
 }

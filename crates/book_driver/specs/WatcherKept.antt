@@ -51,7 +51,7 @@ pub record IsReachedBy (s : Setting) (past : List Entry) (c : Came) (now : Time)
   pub marked : IsMarkedAt s c past (pages s past) now (turned_by c.event c.verdict) marks
   pub timers_are : w.fates.timers ≡ marks.timers
   pub before_are : w.fates.reached ≡ marks.reached
-  pub waits_are : w.fates.are_timed ≡ marks.are_timed
+  pub untimed_are : w.fates.untimed ≡ marks.untimed
   pub watching : IsWatching marks.cache w.fates.cache reached
   pub keys_are : w.deps.reached ≡ reached
   pub told_are : w.streams.told ≡ w.fates.reached

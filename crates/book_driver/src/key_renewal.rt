@@ -72,7 +72,7 @@ impl Watcher {
         ensures changed { IfOk result (λ heard. IsRightBy self.old.boot.authorities self.old.fates.cache self.old.deps → HaveChanged self.new.boot.authorities self.new.deps self.new.fates.cache heard.changed) }
     {
         let heard = hear(self.alloc, &mut self.streams, event, prepared)?;
-        let touched = self.fates.touched_keys(self.alloc, &heard.answered)?;
+        let touched = self.fates.touched_keys(&heard.answered)?;
         let brought = Brought {
             verdict: heard.verdict,
             answered: heard.answered,

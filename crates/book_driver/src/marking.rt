@@ -60,12 +60,11 @@ fn is_moment(event: &DriverEvent) -> bool
 
 /// Takes in an event that brings no answered response: time passes, or a stream turns. It answers the keys that were waited
 /// for in vain, where time passes, and fails for want of memory alone.
-fn pass_or_turn<L: Ledger>(
+fn pass_or_turn(
     fates: &mut Fates,
     event: &DriverEvent,
     verdict: Verdict,
     now: Time,
-    steps: &mut Steps<L>,
 ) -> Result<Option<List<Key>>, Memory>
     ensures changes { IfOk result (λ expired. AreChanges fates.old.cache fates.new.cache (unwrap_or expired [])) }
     ensures marked { OnOk result ((s : Setting) (c : Came) (past : List EntryValue) (ps : List PageValue) → c.event ≡ event.now → c.verdict ≡ verdict → answered s c ≡ None → IsKeptAt past ps fates.old → IsMarkedAt s c past ps now (turned_by event.now verdict) fates.new) }
@@ -74,7 +73,7 @@ fn pass_or_turn<L: Ledger>(
         let expired = fates.pass(now)?;
         return Ok(Some(expired));
     }
-    fates.turn(turned_by(event, verdict), steps);
+    fates.turn(turned_by(event, verdict))?;
     Ok(None)
 }
 
@@ -125,7 +124,7 @@ pub fn mark<L: Ledger>(
             Ok(touched)
         }
         None => {
-            let expired = pass_or_turn(fates, event, verdict, now, steps)?;
+            let expired = pass_or_turn(fates, event, verdict, now)?;
             Ok(changed_by(expired, touched))
         }
     }

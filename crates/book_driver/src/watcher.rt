@@ -61,10 +61,11 @@ impl Watcher {
             deps,
             streams,
             fates: Fates {
+                alloc,
                 cache: Cache::new(alloc),
                 timers: Timers::new(alloc),
                 reached: SharedKeys::new(),
-                are_timed: false,
+                untimed: None,
             },
         })
     }
@@ -102,8 +103,8 @@ impl Watcher {
     }
 
     /// Asks for what is reached: the requests that are due, once something came. Timers end and start by them. Where the same
-    /// keys stay reached, and each that is awaited has a timer, no key is looked at. It fails for want of memory alone, and then
-    /// nothing is said of what is kept.
+    /// keys stay reached, none is looked at but those of which it isn't known that they have a timer where they are awaited. It
+    /// fails for want of memory alone, and then nothing is said of what is kept.
     pub fn ask<L: Ledger>(
         &mut self,
         reached: Reached,
@@ -118,7 +119,7 @@ impl Watcher {
         ensures kept { IfOk result (λ sent. (s : Setting) (past : List EntryValue) (line : ℕ) (event : EventValue) (reply : DriverReply) (a : Assembly) → IsReachedBy s past (came event reply) now reached.keys self.old → IsAssembly s (came event reply) past (pages s past) a → a.reached ≡ reached.keys → now ≡ (present_after past event).now → reply.sent ≡ sent → IsWatcherAt s (driven 0 line event reply ∷ past) self.new) }
     {
         let sent = self.streams.names(reached.keys.as_slice(), reached.stays)?;
-        self.fates.leave(self.alloc, &reached)?;
+        self.fates.leave(&reached)?;
         self.fates.settle(reached, sent.as_slice(), now, steps)?;
         Ok(sent)
     }

@@ -28,8 +28,8 @@ use Rattle.xds_history.specs.Page.{find_watched, watched_now}
 use Rattle.xds_history.specs.Fates.{judged, first_asked, marked, watch}
 use Rattle.book_fates.specs.declared.timed_fates.Fates.{Fates}
 use Rattle.book_fates.specs.FateSteps.{Knows, Stepped, AreApart, out_among, step, brings_timed, brings, after_marks, WatchesOnly}
-use Rattle.book_fates.specs.Timing.{known_in, is_awaited, timed_at, AreAllTimed, AreTimed, Stopped, StoppedBy, StartedBy, TurnsAt, AreAskedBy, is_turned, lost_among, first_among, NoneWanted, asks_at}
-use Rattle.book_fates.specs.FatesKept.{IsKeptAt, IsLeftBy, IsMarkedAt, keys_in, is_moment}
+use Rattle.book_fates.specs.Timing.{known_in, is_awaited, timed_at, AreTimed, Stopped, StoppedBy, StartedBy, TurnsAt, AreAskedBy, is_turned, lost_among, first_among, NoneWanted, asks_at}
+use Rattle.book_fates.specs.FatesKept.{IsKeptAt, IsLeftBy, IsMarkedAt, KnowsTimed, keys_in, is_moment}
 use Rattle.book_fates.proofs.StepLemmas.{knows_marked, knows_watched}
 use Rattle.book_fates.proofs.PartLemmas.{apart}
 use Rattle.book_fates.proofs.EntryLemmas.{entry_timed, known_awaited, runs_by}
@@ -139,7 +139,7 @@ moment_stops past ps timers after lost keys before turn old rows are knows stepp
 
 -- ---- from one state to the next
 
-pub marked_by : (s : Setting) (c : Came) (past : List Entry) (ps : List Page) (now : Time) (turn : Option Authority) (old new : Fates) → IsKeptAt past ps old → new.reached ≡ old.reached → (new.are_timed ≡ true → AreAllTimed new.reached new.cache new.timers) → Knows new.cache (marked s c past ps now) → StoppedBy old.timers new.timers (lost_among old.reached turn new.cache) → IsMarkedAt s c past ps now turn new
+pub marked_by : (s : Setting) (c : Came) (past : List Entry) (ps : List Page) (now : Time) (turn : Option Authority) (old new : Fates) → IsKeptAt past ps old → new.reached ≡ old.reached → KnowsTimed new → Knows new.cache (marked s c past ps now) → StoppedBy old.timers new.timers (lost_among old.reached turn new.cache) → IsMarkedAt s c past ps now turn new
 marked_by s c past ps now turn old new kept same waits knows losing = record {
   knows = knows;
   keys_are = same ∙ kept.keys_are;
@@ -152,7 +152,7 @@ marked_by s c past ps now turn old new kept same waits knows losing = record {
 -- the state within an entry, with the cache as it was before what is reached was watched
 pub settled : (s : Setting) (c : Came) (past : List Entry) (ps : List Page) (p : Page) (now : Time) (turn : Option Authority) (marks old new : Fates) (reached : List Key) (sent : List Sent) → IsMarkedAt s c past ps now turn marks →
     IsLeftBy marks old reached → IsWatching marks.cache old.cache reached → p.watched ≡ watch (marked s c past ps now) reached → p.now ≡ now → TurnsAt turn p → AreAskedBy sent reached past p →
-    StartedBy old.timers new.timers (first_among reached sent old.cache) now → (new.are_timed ≡ true → AreAllTimed new.reached new.cache new.timers) → new.cache ≡ old.cache → new.reached ≡ reached → IsKeptAt (p.entry ∷ past) (p ∷ ps) new
+    StartedBy old.timers new.timers (first_among reached sent old.cache) now → KnowsTimed new → new.cache ≡ old.cache → new.reached ≡ reached → IsKeptAt (p.entry ∷ past) (p ∷ ps) new
 settled s c past ps p now turn marks old new reached sent was by watching watched now_is turn_is asks starting waits cache_is reached_is = record {
   knows = subst (λ rows. Knows rows p.watched) (sym cache_is) (subst (λ ws. Knows old.cache ws) (sym watched) (knows_watched marks.cache old.cache (marked s c past ps now) reached was.knows watching));
   keys_are = reached_is ∙ (sym (keys_watched (marked s c past ps now) reached) ∙ ap keys_in (sym watched));

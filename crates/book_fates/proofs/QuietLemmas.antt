@@ -57,7 +57,7 @@ same_stop false true None hits none = refl
 same_stop true false (Some at) hits none = absurd (cc (hits refl refl))
 same_stop false true (Some at) hits none = absurd (cc (none refl refl))
 
-kept_out : (h : Bool) (o : Option Known) → h ≡ false → option_map (λ known. if h then Known.Absent else known) o ≡ o
+pub kept_out : (h : Bool) (o : Option Known) → h ≡ false → option_map (λ known. if h then Known.Absent else known) o ≡ o
 kept_out true o is = absurd (cc is)
 kept_out false None is = refl
 kept_out false (Some known) is = refl

@@ -1,5 +1,5 @@
 -- What is kept of fates, and what it is of the history.
-use Rattle.std.specs.Prelude.{◌≡◌, ℕ, List, ◌∷◌, map, Bool, true, false, Option, Some, None, if◌then◌else◌}
+use Rattle.std.specs.Prelude.{◌≡◌, ℕ, List, ◌∷◌, map, Bool, true, false, Option, Some, None, IfSome, if◌then◌else◌}
 use Rattle.xc_base.specs.declared.names.Authority.{Authority}
 use Rattle.xc_base.specs.declared.names.Key.{Key}
 use Rattle.xc_base.specs.declared.names.Time.{Time}
@@ -29,17 +29,21 @@ use Rattle.xds_history.specs.Fates.{marked, watch, fate_in}
 use Rattle.book_fates.specs.declared.timed_fates.Fates.{Fates}
 use Rattle.book_fates.specs.declared.timed_fates.Reached.{Reached}
 use Rattle.book_fates.specs.FateSteps.{Knows}
-use Rattle.book_fates.specs.Timing.{AreAllTimed, AreTimed, StoppedBy, lost_among, unreached_among, TurnsAt, AreAskedBy}
+use Rattle.book_fates.specs.Timing.{AreTimed, AreTimedBut, StoppedBy, lost_among, unreached_among, TurnsAt, AreAskedBy}
 
 abbrev pub keys_in : List Watched → List Key
 keys_in watched = map (λ w. w.key) watched
+
+-- each reached key that is awaited has a timer, but those of which that isn't known
+abbrev pub KnowsTimed : Fates → Type 0
+KnowsTimed f = IfSome f.untimed (λ keys. AreTimedBut keys f.reached f.cache f.timers)
 
 -- between entries
 pub record IsKeptAt (past : List Entry) (ps : List Page) (f : Fates) : Type 0 where
   pub knows : Knows f.cache (watched_now ps)
   pub keys_are : f.reached ≡ keys_in (watched_now ps)
   pub timed : AreTimed past ps f.timers
-  pub waits : f.are_timed ≡ true → AreAllTimed f.reached f.cache f.timers
+  pub waits : KnowsTimed f
 
 -- within an entry, after what came, before it is known what is reached: timers of what isn't wanted any more, or whose
 -- stream turned, don't run
@@ -49,17 +53,17 @@ pub record IsMarkedAt (s : Setting) (c : Came) (past : List Entry) (ps : List Pa
   pub before : Running
   pub timed : AreTimed past ps before
   pub lost : StoppedBy before f.timers (lost_among f.reached turn f.cache)
-  pub waits : f.are_timed ≡ true → AreAllTimed f.reached f.cache f.timers
+  pub waits : KnowsTimed f
 
 -- the timers of the keys that aren't among these ended, and the keys from before stand
 pub record IsLeftBy (marks left : Fates) (reached : List Key) : Type 0 where
   pub keys_are : left.reached ≡ marks.reached
-  pub timed_is : left.are_timed ≡ marks.are_timed
+  pub untimed_are : left.untimed ≡ marks.untimed
   pub stopped : StoppedBy marks.timers left.timers (unreached_among marks.reached reached)
 
--- where the same keys stay reached, and each that was awaited had a timer, each that is awaited has one
+-- where the same keys stay reached, each one that is awaited still has a timer, but those of which that isn't known
 abbrev pub StayTimed : Fates → Reached → Type 0
-StayTimed f next = next.stays ≡ true → f.are_timed ≡ true → AreAllTimed next.keys f.cache f.timers
+StayTimed f next = next.stays ≡ true → IfSome f.untimed (λ keys. AreTimedBut keys next.keys f.cache f.timers)
 
 abbrev pub is_moment : DriverEvent → Bool
 is_moment (DriverEvent.Moment time) = true

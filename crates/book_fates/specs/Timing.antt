@@ -1,5 +1,5 @@
 -- Which timers run after an entry, and since when.
-use Rattle.std.specs.Prelude.{◌≡◌, List, ◌∷◌, Bool, true, false, ◌&&◌, ◌||◌, not, Option, Some, None, if◌then◌else◌, option_map, unwrap_or, IsSome}
+use Rattle.std.specs.Prelude.{◌≡◌, List, ◌∷◌, Bool, true, false, ◌&&◌, ◌||◌, not, Option, Some, None, if◌then◌else◌, option_map, unwrap_or, is_some, IsSome}
 use Rattle.std.specs.List.{list_any}
 use Rattle.std.specs.Option.{option_or, option_map_or}
 use Rattle.xc_base.specs.declared.names.Authority.{Authority}
@@ -126,6 +126,10 @@ is_first sent rows key = is_wanted (fate_of rows key) && asks_at sent key key.ho
 abbrev pub first_among : List Key → List Sent → Rows → Key → Bool
 first_among reached sent rows key = has_key reached key && is_first sent rows key
 
+-- one of these keys, which is asked for
+abbrev pub asked_among : List Key → List Sent → Key → Bool
+asked_among keys sent key = has_key keys key && asks_at sent key key.home
+
 -- a request of a reached key's kind goes to its home where that stream is up and the key is asked for
 abbrev pub AreAskedBy : List Sent → List Key → List Entry → Page → Type 0
 AreAskedBy sent reached past p = (key : Key) (a : Authority) → key.home ≡ Home.At a → has_key reached key ≡ true → asks_at sent key (Home.At a) ≡ (is_up a (p.entry ∷ past) && is_asked_in a key p.entry)
@@ -136,6 +140,11 @@ AreAskedBy sent reached past p = (key : Key) (a : Authority) → key.home ≡ Ho
 abbrev pub IsTimed : Rows → Running → Key → Type 0
 IsTimed rows timers key = is_wanted (fate_of rows key) ≡ true → IsSome (started_at timers key)
 
--- so has each of these
-abbrev pub AreAllTimed : List Key → Rows → Running → Type 0
-AreAllTimed keys rows timers = (key : Key) → has_key keys key ≡ true → IsTimed rows timers key
+-- so has each of these but some of the others, which are among them
+pub record AreTimedBut (others keys : List Key) (rows : Rows) (timers : Running) : Type 0 where
+  pub among : (key : Key) → has_key others key ≡ true → has_key keys key ≡ true
+  pub timed : (key : Key) → has_key keys key ≡ true → has_key others key ≡ false → IsTimed rows timers key
+
+-- the key's timer doesn't run
+abbrev pub is_idle : Running → Key → Bool
+is_idle timers key = not (is_some (started_at timers key))

@@ -1,5 +1,5 @@
 //! The fates of watched keys, and their timers.
-ghost use Rattle.std.specs.Prelude.{◌≡◌, ◌≤◌, ◌+◌, ◌∷◌, [], List, Option, Some, None, true, false, IsOk, OnOk, IfOk, length, option_map};
+ghost use Rattle.std.specs.Prelude.{◌≡◌, ◌≤◌, ◌+◌, ◌∷◌, ◌++◌, [], List, Option, Some, None, true, false, IsOk, OnOk, IfOk, IfSome, length, option_map, unwrap_or, if◌then◌else◌};
 ghost use Rattle.xc_base.specs.declared.names.Authority.{Authority as AuthorityValue};
 ghost use Rattle.xc_base.specs.declared.names.Time.{Time as TimeValue};
 ghost use Rattle.call_journal.specs.declared.event.DriverEvent.{DriverEvent as EventValue};
@@ -12,12 +12,14 @@ ghost use Rattle.xds_history.specs.Fates.{deletes, marked, watch};
 ghost use Rattle.book_fates.specs.declared.timed_fates.Fates.{Fates as FatesValue};
 ghost use Rattle.book_fates.specs.FateSteps.{Stepped, WatchesOnly, out_among, told_step};
 ghost use Rattle.book_fates.specs.Delivered.{AreTheirs, HasTouched, IsReady, delivered_by, delivered_in, most_touched, told_as};
-ghost use Rattle.book_fates.specs.Timing.{AreAllTimed, AreAskedBy, NoneWanted, StartedBy, TurnsAt, first_among};
+ghost use Rattle.book_fates.specs.Timing.{AreAskedBy, AreTimedBut, NoneWanted, StartedBy, TurnsAt, first_among};
 ghost use Rattle.book_fates.specs.FatesKept.{IsKeptAt, IsLeftBy, IsMarkedAt, StayTimed, is_moment};
 
 use crate::answered::Answered;
 use crate::fates::{take_told, touched_of};
-use crate::timing::{expire, start_first, stop_lost, stop_unreached};
+use crate::timing::{
+    expire, idle_keys, start_asked, stop_lost, stop_turned, stop_unreached, wanted_keys,
+};
 use call_journal::Sent;
 use config_assembly::SharedKeys;
 use std::alloc::Global;
@@ -40,32 +42,73 @@ pub struct Reached {
 /// What is kept of the keys that are watched.
 #[derive(Drop)]
 pub struct Fates {
+    /// Where lists are made.
+    pub alloc: Global,
     /// What is known of each.
     pub cache: Cache,
     /// Since when each one that is waited for was asked for, in ms.
     pub timers: Timers,
     /// The keys, in their order, each once.
     pub reached: SharedKeys,
-    /// Whether each of them that is awaited is known to have a timer.
-    pub are_timed: bool,
+    /// Those of them of which it isn't known that they have a timer where they are awaited; none where it is known of no key.
+    pub untimed: Option<List<Key>>,
+}
+
+/// These keys, where the test holds.
+fn keys_if(test: bool, keys: Option<List<Key>>) -> Option<List<Key>>
+    ensures { result ≡ (if test then keys else None) }
+{
+    if test { keys } else { None }
+}
+
+/// These keys, or else those that are reached.
+fn keys_or<'a>(keys: &'a Option<List<Key>>, reached: &'a SharedKeys) -> &'a [Key]
+    ensures { result.now ≡ unwrap_or keys.now reached.now }
+{
+    match keys {
+        Some(keys) => keys.as_slice(),
+        None => reached.as_slice(),
+    }
+}
+
+/// Adds copies of keys to a list.
+fn push_copies(keys: &mut List<Key>, more: &[Key]) -> Result<(), Memory>
+    ensures { OnOk result (keys.new ≡ keys.old ++ more.now) }
+{
+    for key in more {
+        keys.push(key.clone()?)?;
+    }
+    Ok(())
+}
+
+/// These keys and others behind them, where there is a list of them.
+fn with_keys(keys: Option<List<Key>>, more: &[Key]) -> Result<Option<List<Key>>, Memory>
+    ensures { IfOk result (λ all. all ≡ option_map (λ keys. keys ++ more.now) keys) }
+{
+    let Some(mut keys) = keys else {
+        return Ok(None);
+    };
+    push_copies(&mut keys, more)?;
+    Ok(Some(keys))
 }
 
 impl Fates {
     /// The watched keys that an answered response can change: those that it names, or, where its kind deletes what it lacks, each
     /// one of its kind and home. There are none without a response. It fails for want of memory alone.
-    pub fn touched_keys(
-        &self,
-        alloc: Global,
-        response: &Option<Answered>,
-    ) -> Result<List<Key>, Memory>
+    pub fn touched_keys(&self, response: &Option<Answered>) -> Result<List<Key>, Memory>
         requires only { WatchesOnly self.now.cache self.now.reached }
         ensures touched { IfOk result (HasTouched response.now self.now.cache) }
         ensures theirs { IfOk result (AreTheirs response.now) }
         ensures few { IfOk result (λ keys. length keys ≤ most_touched response.now self.now.reached) }
     {
         match response {
-            Some(response) => touched_of(alloc, &self.cache, response, self.reached.as_slice()),
-            None => Ok(List::new(alloc)),
+            Some(response) => touched_of(
+                self.alloc,
+                &self.cache,
+                response,
+                self.reached.as_slice(),
+            ),
+            None => Ok(List::new(self.alloc)),
         }
     }
 
@@ -88,7 +131,7 @@ impl Fates {
         ensures marked { (s : Setting) (c : Came) (past : List EntryValue) (ps : List PageValue) (now : TimeValue) → option_map delivered_by (answered s c) ≡ Some (delivered_in response) → IsKeptAt past ps self.old → IsMarkedAt s c past ps now None self.new }
     {
         take_told(&mut self.cache, response, self.reached.as_slice(), steps)?;
-        stop_lost(&mut self.timers, &self.cache, touched, None, steps);
+        stop_lost(&mut self.timers, &self.cache, touched, steps);
         Ok(())
     }
 
@@ -100,35 +143,26 @@ impl Fates {
         ensures marked { OnOk result ((s : Setting) (c : Came) (past : List EntryValue) (ps : List PageValue) (time : TimeValue) → c.event ≡ EventValue.Moment time → IsKeptAt past ps self.old → IsMarkedAt s c past ps now None self.new) }
     {
         let keys = expire(&mut self.cache, &mut self.timers, now)?;
-        if !keys.as_slice().is_empty() {
-            self.are_timed = false;
-        }
         Ok(keys)
     }
 
-    /// Takes in that the stream of an authority was opened or ended, or none: no timer runs on over that. Where none was, no
-    /// key is looked at. It takes no memory.
-    pub fn turn<L: Ledger>(&mut self, turn: Option<Authority>, steps: &mut Steps<L>)
-        ensures cache { self.new.cache ≡ self.old.cache }
-        ensures still { turn ≡ None → steps.new ≡ steps.old }
-        ensures marked { (s : Setting) (c : Came) (past : List EntryValue) (ps : List PageValue) (now : TimeValue) → answered s c ≡ None → is_moment c.event ≡ false → IsKeptAt past ps self.old → IsMarkedAt s c past ps now turn self.new }
+    /// Takes in that the stream of an authority was opened or ended, or none: no timer runs on over that. It looks at none but
+    /// the keys whose timers run, and where none was opened or ended at no key. It fails for want of memory alone.
+    pub fn turn(&mut self, turn: Option<Authority>) -> Result<(), Memory>
+        ensures cache { OnOk result (self.new.cache ≡ self.old.cache) }
+        ensures marked { OnOk result ((s : Setting) (c : Came) (past : List EntryValue) (ps : List PageValue) (now : TimeValue) → answered s c ≡ None → is_moment c.event ≡ false → IsKeptAt past ps self.old → IsMarkedAt s c past ps now turn self.new) }
     {
         if turn.is_none() {
-            return;
+            return Ok(());
         }
-        self.are_timed = false;
-        stop_lost(
-            &mut self.timers,
-            &self.cache,
-            self.reached.as_slice(),
-            turn,
-            steps,
-        );
+        let turned = stop_turned(self.alloc, &mut self.timers, turn)?;
+        self.untimed = with_keys(self.untimed.take(), turned.as_slice())?;
+        Ok(())
     }
 
     /// Ends the timers of the watched keys that are no longer reached. Where the same keys stay reached it looks at none. It
     /// fails for want of memory alone.
-    pub fn leave(&mut self, alloc: Global, next: &Reached) -> Result<(), Memory>
+    pub fn leave(&mut self, next: &Reached) -> Result<(), Memory>
         requires stays { next.now.stays ≡ true → next.now.keys ≡ self.old.reached }
         ensures cache { OnOk result (self.new.cache ≡ self.old.cache) }
         ensures left { OnOk result (IsLeftBy self.old self.new next.now.keys) }
@@ -137,15 +171,36 @@ impl Fates {
             return Ok(());
         }
         stop_unreached(
-            alloc,
+            self.alloc,
             &mut self.timers,
             self.reached.as_slice(),
             next.keys.as_slice(),
         )
     }
 
+    /// Starts the timers of those of these keys that are wanted and asked for first. It answers those that are wanted and have no
+    /// timer.
+    fn start_first<L: Ledger>(
+        &mut self,
+        keys: &[Key],
+        sent: &[Sent],
+        now: Time,
+        steps: &mut Steps<L>,
+    ) -> Result<List<Key>, Memory>
+        ensures cache { OnOk result (self.new.cache ≡ self.old.cache) }
+        ensures started { OnOk result (StartedBy self.old.timers self.new.timers (first_among keys.now sent.now self.old.cache) now) }
+        ensures timed { IfOk result (λ untimed. AreTimedBut untimed keys.now self.old.cache self.new.timers) }
+        ensures cost { steps.new ≤ steps.old + length keys.now }
+    {
+        let wanted = wanted_keys(self.alloc, &self.cache, keys, steps)?;
+        start_asked(&mut self.timers, wanted.as_slice(), sent, now)?;
+        let idle = idle_keys(self.alloc, &self.timers, wanted.as_slice())?;
+        Ok(idle)
+    }
+
     /// Starts the timers of the reached keys that are wanted and asked for first. Where none is awaited it looks at no key, nor
-    /// where the same keys stay reached and each one that is awaited has a timer, nor where nothing is sent.
+    /// where nothing is sent, and where the same keys stay reached at none but those of which it isn't known that they have a
+    /// timer.
     fn start<L: Ledger>(
         &mut self,
         next: &Reached,
@@ -156,36 +211,27 @@ impl Fates {
         requires awaits { next.now.awaits ≡ false → NoneWanted self.old.cache next.now.keys }
         ensures cache { OnOk result (self.new.cache ≡ self.old.cache) }
         ensures started { OnOk result (StayTimed self.old next.now → StartedBy self.old.timers self.new.timers (first_among next.now.keys sent.now self.old.cache) now) }
-        ensures timed { OnOk result (StayTimed self.old next.now → self.new.are_timed ≡ true → AreAllTimed next.now.keys self.old.cache self.new.timers) }
-        ensures still { next.now.stays ≡ true → self.old.are_timed ≡ true → steps.new ≡ steps.old }
+        ensures timed { OnOk result (StayTimed self.old next.now → IfSome self.new.untimed (λ keys. AreTimedBut keys next.now.keys self.old.cache self.new.timers)) }
+        ensures few { next.now.stays ≡ true → IfSome self.old.untimed (λ keys. steps.new ≤ steps.old + length keys) }
         ensures unsent { sent.now ≡ [] → steps.new ≡ steps.old }
     {
+        let left = keys_if(next.stays, self.untimed.take());
         if !next.awaits {
-            self.are_timed = true;
-            return Ok(());
-        }
-        if next.stays && self.are_timed {
             return Ok(());
         }
         if sent.is_empty() {
-            self.are_timed = false;
+            self.untimed = left;
             return Ok(());
         }
-        self.are_timed = start_first(
-            &mut self.timers,
-            &self.cache,
-            next.keys.as_slice(),
-            sent,
-            now,
-            steps,
-        )?;
+        let untimed = self.start_first(keys_or(&left, &next.keys), sent, now, steps)?;
+        self.untimed = Some(untimed);
         Ok(())
     }
 
     /// Starts timers once the cache watches what is reached and the requests are known, and the timers of what is no longer
     /// reached ended: a wanted key that is asked for first has one from now on. Where none is awaited it looks at no key, nor
-    /// where the same keys stay reached and each one that is awaited has a timer, nor where nothing is sent. It fails for want
-    /// of memory alone, and then nothing is said of what is kept.
+    /// where nothing is sent, and where the same keys stay reached at none but those of which it isn't known that they have a
+    /// timer. It fails for want of memory alone, and then nothing is said of what is kept.
     pub fn settle<L: Ledger>(
         &mut self,
         next: Reached,
@@ -196,7 +242,7 @@ impl Fates {
         requires awaits { next.awaits ≡ false → NoneWanted self.old.cache next.keys }
         requires stays { next.stays ≡ true → next.keys ≡ self.old.reached }
         ensures cache { OnOk result (self.new.cache ≡ self.old.cache) }
-        ensures still { next.stays ≡ true → self.old.are_timed ≡ true → steps.new ≡ steps.old }
+        ensures few { next.stays ≡ true → IfSome self.old.untimed (λ keys. steps.new ≤ steps.old + length keys) }
         ensures unsent { sent.now ≡ [] → steps.new ≡ steps.old }
         ensures kept { OnOk result ((s : Setting) (c : Came) (past : List EntryValue) (ps : List PageValue) (page : PageValue) (turn : Option AuthorityValue) (marks : FatesValue) → IsMarkedAt s c past ps now turn marks → IsLeftBy marks self.old next.keys → IsWatching marks.cache self.old.cache next.keys → page.watched ≡ watch (marked s c past ps now) next.keys → page.now ≡ now → TurnsAt turn page → AreAskedBy sent.now next.keys past page → IsKeptAt (page.entry ∷ past) (page ∷ ps) self.new) }
     {

@@ -1,5 +1,6 @@
 //! The timers of wanted keys.
-ghost use Rattle.std.specs.Prelude.{◌≡◌, ◌≤◌, ◌+◌, ◌∷◌, ◌&&◌, List, true, false, length, OnOk, IfOk};
+ghost use Rattle.std.specs.Prelude.{◌≡◌, ◌≤◌, ◌+◌, ◌∷◌, [], ◌++◌, ◌&&◌, List, true, false, filter, length, None, OnOk, IfOk, if◌then◌else◌};
+ghost use Rattle.std.specs.Map.{keys_of};
 ghost use Rattle.xc_base.specs.declared.names.Key.{Key as KeyValue};
 ghost use Rattle.xc_base.specs.declared.names.Time.{Time as TimeValue};
 ghost use Rattle.call_journal.specs.declared.event.DriverEvent.{DriverEvent as EventValue};
@@ -16,7 +17,7 @@ ghost use Rattle.xds_history.specs.declared.page.Page.{Page as PageValue};
 ghost use Rattle.xds_history.specs.Page.{watched_now};
 ghost use Rattle.xds_history.specs.Fates.{marked};
 ghost use Rattle.book_fates.specs.FateSteps.{Knows, Stepped, out_among};
-ghost use Rattle.book_fates.specs.Timing.{AreAllTimed, AreTimed, IsTimed, expires_at, StoppedBy, StartedBy, is_turned, is_lost, lost_among, unreached_among, asks_at, is_first, first_among};
+ghost use Rattle.book_fates.specs.Timing.{AreTimed, expires_at, Stopped, StoppedBy, StartedBy, is_turned, is_lost, lost_among, unreached_among, asked_among, asks_at, is_idle};
 
 use crate::fates::take_out;
 use crate::key_set::key_set;
@@ -60,52 +61,82 @@ fn is_wanted(fate: Fate<'_>) -> bool
     matches!(fate, Fate::Wanted)
 }
 
-/// Whether the key is no longer wanted by what came, or its stream turned.
-fn is_lost<L: Ledger>(
-    turn: Option<Authority>,
-    cache: &Cache,
-    key: &Key,
-    steps: &mut Steps<L>,
-) -> bool
-    ensures lost { result ≡ is_lost turn cache.now key.now }
+/// Whether the key is no longer wanted by what came.
+fn is_lost<L: Ledger>(cache: &Cache, key: &Key, steps: &mut Steps<L>) -> bool
+    ensures lost { result ≡ is_lost None cache.now key.now }
     ensures cost { steps.new ≤ steps.old + 1 }
 {
-    is_turned(turn, key.home) || !is_wanted(cache.get(key, steps))
+    !is_wanted(cache.get(key, steps))
 }
 
-/// Ends the timers of those of these keys that are no longer wanted by what came, or whose stream turned.
-fn stop_each_lost<L: Ledger>(
-    timers: &mut Timers,
-    cache: &Cache,
-    before: &[Key],
-    turn: Option<Authority>,
-    steps: &mut Steps<L>,
-)
-    ensures stopped { StoppedBy timers.old timers.new (lost_among before.now turn cache.now) }
-    ensures cost { steps.new ≤ steps.old + length before.now }
+/// Ends the timers of those of these keys that are no longer wanted by what came.
+fn stop_each_lost<L: Ledger>(timers: &mut Timers, cache: &Cache, keys: &[Key], steps: &mut Steps<L>)
+    ensures stopped { StoppedBy timers.old timers.new (lost_among keys.now None cache.now) }
+    ensures cost { steps.new ≤ steps.old + length keys.now }
 {
-    for key in before {
-        if is_lost(turn, cache, key, steps) {
+    for key in keys {
+        if is_lost(cache, key, steps) {
             timers.cancel(key);
         }
     }
 }
 
-/// Ends the timers of those of these keys that are no longer wanted by what came, or whose stream turned. Where no timer runs
-/// it looks at no key. It takes no memory.
-pub fn stop_lost<L: Ledger>(
-    timers: &mut Timers,
-    cache: &Cache,
-    before: &[Key],
-    turn: Option<Authority>,
-    steps: &mut Steps<L>,
-)
-    ensures stopped { StoppedBy timers.old timers.new (lost_among before.now turn cache.now) }
-    ensures cost { steps.new ≤ steps.old + length before.now }
+/// Ends the timers of those of these keys that are no longer wanted by what came. Where no timer runs it looks at no key. It
+/// takes no memory.
+pub fn stop_lost<L: Ledger>(timers: &mut Timers, cache: &Cache, keys: &[Key], steps: &mut Steps<L>)
+    ensures stopped { StoppedBy timers.old timers.new (lost_among keys.now None cache.now) }
+    ensures cost { steps.new ≤ steps.old + length keys.now }
 {
     if !timers.is_empty() {
-        stop_each_lost(timers, cache, before, turn, steps);
+        stop_each_lost(timers, cache, keys, steps);
     }
+}
+
+/// Puts a key into a list, where its stream turned.
+fn put_turned(turned: &mut List<Key>, turn: Option<Authority>, key: &Key) -> Result<(), Memory>
+    ensures { OnOk result (turned.new ≡ (if is_turned turn key.now.home then turned.old ++ key.now ∷ [] else turned.old)) }
+{
+    if !is_turned(turn, key.home) {
+        return Ok(());
+    }
+    turned.push(key.clone()?)?;
+    Ok(())
+}
+
+/// Those of these keys whose stream turned.
+fn turned_keys(alloc: Global, turn: Option<Authority>, keys: &[Key]) -> Result<List<Key>, Memory>
+    ensures { IfOk result (λ turned. turned ≡ filter (λ key. is_turned turn key.home) keys.now) }
+{
+    let mut turned = List::new(alloc);
+    for key in keys {
+        put_turned(&mut turned, turn, key)?;
+    }
+    Ok(turned)
+}
+
+/// Ends the timers of these keys.
+fn stop_each(timers: &mut Timers, keys: &[Key])
+    ensures { Stopped timers.old timers.new keys.now }
+{
+    for key in keys {
+        timers.cancel(key);
+    }
+}
+
+/// Ends the timers of the keys whose stream turned, and answers these keys. It looks at none but those whose timers run, and
+/// fails for want of memory alone.
+pub fn stop_turned(
+    alloc: Global,
+    timers: &mut Timers,
+    turn: Option<Authority>,
+) -> Result<List<Key>, Memory>
+    ensures turned { IfOk result (λ turned. turned ≡ filter (λ key. is_turned turn key.home) (keys_of timers.old)) }
+    ensures stopped { IfOk result (Stopped timers.old timers.new) }
+{
+    let running = timers.running()?;
+    let turned = turned_keys(alloc, turn, running.as_slice())?;
+    stop_each(timers, turned.as_slice());
+    Ok(turned)
 }
 
 /// Ends the timers of those of these keys that aren't in a set.
@@ -160,47 +191,84 @@ fn asks(sent: &[Sent], key: &Key) -> bool
     }
 }
 
-/// Starts the timer of a key that is wanted and asked for. It answers whether the key is known to have a timer, or isn't wanted.
-/// It fails for want of memory alone.
-fn start_where_first<L: Ledger>(
-    timers: &mut Timers,
+/// Puts a key into a list, where it is wanted.
+fn put_wanted<L: Ledger>(
+    wanted: &mut List<Key>,
     cache: &Cache,
     key: &Key,
-    sent: &[Sent],
-    now: Time,
     steps: &mut Steps<L>,
-) -> Result<bool, Memory>
-    ensures first { OnOk result (is_first sent.now cache.now key.now ≡ true → Starts timers.old timers.new key.now now) }
-    ensures others { OnOk result (is_first sent.now cache.now key.now ≡ false → timers.new ≡ timers.old) }
-    ensures timed { IfOk result (λ is_timed. is_timed ≡ true → IsTimed cache.now timers.new key.now) }
+) -> Result<(), Memory>
+    ensures put { OnOk result (wanted.new ≡ (if is_wanted (fate_of cache.now key.now) then wanted.old ++ key.now ∷ [] else wanted.old)) }
+    ensures cost { steps.new ≤ steps.old + 1 }
 {
-    let waits = is_wanted(cache.get(key, steps));
-    if waits && asks(sent, key) {
-        timers.start(key, now)?;
-        return Ok(true);
+    if !is_wanted(cache.get(key, steps)) {
+        return Ok(());
     }
-    Ok(!waits || timers.is_running(key))
+    wanted.push(key.clone()?)?;
+    Ok(())
 }
 
-/// Starts the timers of those of these keys that are wanted and asked for. It answers whether each one that is wanted is known to
-/// have a timer. It fails for want of memory alone.
-pub fn start_first<L: Ledger>(
-    timers: &mut Timers,
+/// Those of these keys that are wanted. It fails for want of memory alone.
+pub fn wanted_keys<L: Ledger>(
+    alloc: Global,
     cache: &Cache,
-    reached: &[Key],
+    keys: &[Key],
+    steps: &mut Steps<L>,
+) -> Result<List<Key>, Memory>
+    ensures wanted { IfOk result (λ wanted. wanted ≡ filter (λ key. is_wanted (fate_of cache.now key)) keys.now) }
+    ensures cost { steps.new ≤ steps.old + length keys.now }
+{
+    let mut wanted = List::new(alloc);
+    for key in keys {
+        put_wanted(&mut wanted, cache, key, steps)?;
+    }
+    Ok(wanted)
+}
+
+/// Starts the timer of a key, where it is asked for.
+fn start_if_asked(timers: &mut Timers, key: &Key, sent: &[Sent], now: Time) -> Result<(), Memory>
+    ensures asked { OnOk result (asks_at sent.now key.now key.now.home ≡ true → Starts timers.old timers.new key.now now) }
+    ensures others { OnOk result (asks_at sent.now key.now key.now.home ≡ false → timers.new ≡ timers.old) }
+{
+    if asks(sent, key) {
+        timers.start(key, now)?;
+    }
+    Ok(())
+}
+
+/// Starts the timers of those of these keys that are asked for. It fails for want of memory alone.
+pub fn start_asked(
+    timers: &mut Timers,
+    keys: &[Key],
     sent: &[Sent],
     now: Time,
-    steps: &mut Steps<L>,
-) -> Result<bool, Memory>
-    ensures started { OnOk result (StartedBy timers.old timers.new (first_among reached.now sent.now cache.now) now) }
-    ensures timed { IfOk result (λ are_timed. are_timed ≡ true → AreAllTimed reached.now cache.now timers.new) }
+) -> Result<(), Memory>
+    ensures { OnOk result (StartedBy timers.old timers.new (asked_among keys.now sent.now) now) }
 {
-    let mut are_timed = true;
-    for key in reached {
-        let is_timed = start_where_first(timers, cache, key, sent, now, steps)?;
-        if !is_timed {
-            are_timed = false;
-        }
+    for key in keys {
+        start_if_asked(timers, key, sent, now)?;
     }
-    Ok(are_timed)
+    Ok(())
+}
+
+/// Puts a key into a list, where its timer doesn't run.
+fn put_idle(idle: &mut List<Key>, timers: &Timers, key: &Key) -> Result<(), Memory>
+    ensures { OnOk result (idle.new ≡ (if is_idle timers.now key.now then idle.old ++ key.now ∷ [] else idle.old)) }
+{
+    if timers.is_running(key) {
+        return Ok(());
+    }
+    idle.push(key.clone()?)?;
+    Ok(())
+}
+
+/// Those of these keys whose timers don't run. It fails for want of memory alone.
+pub fn idle_keys(alloc: Global, timers: &Timers, keys: &[Key]) -> Result<List<Key>, Memory>
+    ensures { IfOk result (λ idle. idle ≡ filter (is_idle timers.now) keys.now) }
+{
+    let mut idle = List::new(alloc);
+    for key in keys {
+        put_idle(&mut idle, timers, key)?;
+    }
+    Ok(idle)
 }

@@ -1,6 +1,7 @@
 //! The timers of keys.
 ghost use Rattle.std.specs.Prelude.{◌≡◌, ◌↔◌, ◌≤◌, ◌+◌, [], ◌∷◌, ◌++◌, length, map, true, false, is_some, None, IsTrue, IfSome, IfNone, OnOk, OnErr, IfOk};
 ghost use Rattle.std.specs.BTreeSet.{IsOrdered, Updates};
+ghost use Rattle.std.specs.Map.{keys_of};
 ghost use Rattle.std.specs.Vec.{vec_capacity};
 ghost use Rattle.watch_timers.specs.StartOrder.{IsOrderOf, first_due, after_due};
 ghost use Rattle.watch_timers.specs.Timers.{has_run, started_at, Starts, Stops, TakesDue};
@@ -50,6 +51,17 @@ fn has_run_out(at: Time, now: Time) -> bool
         Some(run) => run >= PATIENCE,
         None => false,
     }
+}
+
+/// A copy of each key.
+fn copies(alloc: Global, keys: &[&Key]) -> Result<List<Key>, Memory>
+    ensures { IfOk result (λ copies. copies ≡ map (λ key. key.now) keys.now) }
+{
+    let mut copies = List::new(alloc);
+    for key in keys {
+        copies.push((*key).clone()?)?;
+    }
+    Ok(copies)
 }
 
 /// How many timers have run out. They stand first. It takes no memory.
@@ -152,6 +164,14 @@ impl Timers {
         ensures { IsTrue result ↔ (self.now ≡ []) }
     {
         self.starts.is_empty()
+    }
+
+    /// The keys whose timers run, in their order. It fails for want of memory alone.
+    pub fn running(&self) -> Result<List<Key>, Memory>
+        ensures { IfOk result (λ keys. keys ≡ keys_of self.now) }
+    {
+        let keys: Vec<&Key> = self.starts.keys().collect(self.alloc)?;
+        copies(self.alloc, keys.as_slice())
     }
 
     /// Whether the key's timer runs. It takes no memory.

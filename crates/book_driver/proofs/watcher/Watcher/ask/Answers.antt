@@ -32,6 +32,6 @@ returns-clause-kept g c s past line event reply a by assembled_is same timely to
     (settles s past line event reply c.args.now a c.args.reached.keys c.in_ok-sent.sent c.args.self.now c.settle.new.self by assembled_is same timely told asked
     (λ page watched now_is turns asks.
     c.in_ok-settle.ensures.kept s (came event reply) past (pages s past) page (turned_by event reply.verdict) by.marks by.marked
-    (left_by by.marks c.args.self.now.fates c.leave.new.self c.args.reached.keys by.timers_are by.before_are by.waits_are c.in_ok-leave.ensures.left)
+    (left_by by.marks c.args.self.now.fates c.leave.new.self c.args.reached.keys by.timers_are by.before_are by.untimed_are c.in_ok-leave.ensures.left)
     (subst (λ rows. IsWatching by.marks.cache rows c.args.reached.keys) (sym c.in_ok-leave.ensures.cache) by.watching) watched now_is turns
     (subst (λ xs. AreAskedBy xs c.args.reached.keys past page) (sym c.as_slice-2.ensures) asks)))
