@@ -1,6 +1,7 @@
 -- What is kept of calls, one entry on.
 use Rattle.std.proofs.Common.{◌≡◌, ℕ, ◌+◌, ◌-◌, ◌==◌, arith, Bool, true, false, Option, Some, None, Result, Ok, Err, List, [], ◌∷◌, ◌++◌, length, refl, sym, ap, ◌∙◌, subst, if◌then◌else◌, eqb-true, option_map, option_and_then}
-use Rattle.std.specs.Prelude.{slice_get, IfSome, OnErr}
+use Rattle.std.specs.Prelude.{not, slice_get, IfSome, OnErr}
+use Rattle.std.proofs.lemmas.Option.{IfSome_then}
 use Rattle.std.specs.Option.{option_map_or}
 use Rattle.std.specs.Map.{lookup}
 use Rattle.std.specs.BTreeMap.{BTreeMap}
@@ -14,7 +15,7 @@ use Rattle.route_match.specs.declared.answer.RouteAnswer.{RouteAnswer}
 use Rattle.route_match.specs.Routes.{route}
 use Rattle.cluster_tree.specs.declared.snapshot.Snapshot.{Snapshot}
 use Rattle.cluster_refs.specs.declared.pins.Pin.{Pin}
-use Rattle.cluster_refs.specs.CallReferences.{References, is_call, IsListOf, SetsPin, SetsHold}
+use Rattle.cluster_refs.specs.CallReferences.{References, hold_of, is_call, IsHeld, IsListOf, SetsPin, SetsHold}
 use Rattle.snapshot_store.specs.Tickets.{IsTicketOf, AreTicketsOf, values_of}
 use Rattle.call_journal.specs.declared.event.DriverEvent.{DriverEvent}
 use Rattle.call_journal.specs.declared.event.CallerEvent.{CallerEvent}
@@ -26,7 +27,7 @@ use Rattle.xds_history.specs.config_assembly.Orders.{Name}
 use Rattle.xds_history.specs.Setting.{Setting}
 use Rattle.xds_history.specs.declared.page.Page.{Page}
 use Rattle.xds_history.specs.Page.{latest, latest_number}
-use Rattle.xds_history.specs.References.{snapshot_at, routed_to, found_in, pinned, held, names_in, snapshots_of}
+use Rattle.xds_history.specs.References.{snapshot_at, routed_to, found_in, pinned, held, names_in, references, references_seen, snapshots_of}
 use Rattle.xds_history.specs.Pages.{pages, page_of, caller_page, called, driven}
 use Rattle.xds_history.specs.Right.{Right, caller_reply, hold_reply, pin_reply}
 use Rattle.book_calls.specs.declared.pinning.Pinning.{Pinning}
@@ -34,15 +35,20 @@ use Rattle.book_calls.specs.declared.latest_snapshot.Latest.{Latest}
 use Rattle.book_calls.specs.declared.calls.Calls.{Calls}
 use Rattle.book_calls.specs.RefsKept.{names_at, list_at, AreRefsAt, at_call, SetsBoth}
 use Rattle.book_calls.specs.CallsKept.{IsTicketAt, IsLatestOf, AreOwn, AreCallsAt, IsRouted}
-use Rattle.book_calls.specs.CallsLaws.{PicksLeave, DriversLeave}
+use Rattle.book_calls.specs.CallsLaws.{PicksLeave}
+use Rattle.book_calls.specs.SeenReferences.{IsHeldBy}
 use Rattle.book_calls.proofs.SnapshotNumbers.{push_here, length_push, same_list, same_latest, new_list, new_latest, are_numbered, pins_have_snapshots}
 use Rattle.book_calls.proofs.SnapshotPlaces.{get_more, map_push, length_map, ticket_reads, latest_found}
-use Rattle.book_calls.proofs.RefSteps.{is_same, same_id, pin_still, hold_still, pinned_after_pin, pinned_after_hold, held_after_hold, refs_pinned, refs_held}
-use Rattle.book_calls.proofs.ReferenceProofs.{refs_driven, drivers_change_none}
+use Rattle.book_calls.proofs.RefSteps.{is_same, same_id, pin_still, hold_still, pinned_after_pin, pinned_after_hold, held_after_hold, held_after_commit, refs_pinned, refs_unpinned, refs_held, refs_unheld, refs_released, still_at}
+use Rattle.book_calls.proofs.ReferenceProofs.{hold_stays, references_stay, refs_driven, release_stays}
 
--- what is kept, with other pins, holds and snapshots
+-- what is kept, with other pins and holds
 abbrev pub calls_with : Calls → References → BTreeMap CallId Pinning → Bool → Calls
-calls_with c refs pins differs = record { alloc = c.alloc; refs = refs; pins = pins; tickets = c.tickets; latest = c.latest; may_differ = differs }
+calls_with c refs pins stays = record { alloc = c.alloc; refs = refs; pins = pins; tickets = c.tickets; latest = c.latest; holds_stay = stays; was_unpinned = c.was_unpinned }
+
+-- what is kept once the driver has seen what calls refer to
+abbrev pub calls_seen_with : Calls → List (Where Snapshot) → Option Latest → Bool → Calls
+calls_seen_with c tickets latest unpinned = record { alloc = c.alloc; refs = c.refs; pins = c.pins; tickets = tickets; latest = latest; holds_stay = true; was_unpinned = unpinned }
 
 -- ---- entries that change nothing
 
@@ -57,34 +63,41 @@ picks_leave archive s past actor line id word reply c kept = record {
   tickets_are = kept.tickets_are ∙ same_snapshots (pages s past);
   latest_is = kept.latest_is;
   apart = kept.apart;
-  seen = kept.seen;
+  stay = kept.stay;
+  unpinned = kept.unpinned;
 }
 
 abbrev page_at : Setting → List Entry → ℕ → ℕ → DriverEvent → DriverReply → Page
 page_at s past actor line event reply = page_of s (driven actor line event reply) (What.Driver event reply) past (pages s past)
 
-pub drivers_leave : DriversLeave
-drivers_leave archive s past actor line event reply c right none kept = record {
-  own = kept.own;
+-- where nothing is pinned, nothing was at this entry
+unpinned_by : (ps : List Page) (c : Calls) (archive : Shelves) → AreCallsAt archive ps c → c.pins.entries ≡ [] → (id : CallId) → pinned ps id ≡ None
+unpinned_by ps c archive kept none id = sym (kept.numbers_are id) ∙ ap (λ es. option_map (λ (p : Pinning). p.number) (lookup (is_call id) es)) none
+
+-- a driver's entry that publishes nothing
+pub calls_seen : (archive : Shelves) (s : Setting) (past : List Entry) (actor line : ℕ) (event : DriverEvent) (reply : DriverReply) (c : Calls) (unpinned : Bool) → Right s (driven actor line event reply ∷ past) →
+    (page_of s (driven actor line event reply) (What.Driver event reply) past (pages s past)).snapshot ≡ None → (unpinned ≡ true → c.pins.entries ≡ []) → AreCallsAt archive (pages s past) c →
+    AreCallsAt archive (pages s (driven actor line event reply ∷ past)) (calls_seen_with c c.tickets c.latest unpinned)
+calls_seen archive s past actor line event reply c unpinned right none are kept = record {
+  own = record { tickets = kept.own.tickets; pins = kept.own.pins; latest = kept.own.latest };
   refs_are = refs_driven s past actor line event reply c.refs right kept.refs_are;
   numbers_are = kept.numbers_are;
   tickets_are = kept.tickets_are ∙ sym (same_list (page_at s past actor line event reply) (pages s past) none);
   latest_is = kept.latest_is ∙ sym (same_latest (page_at s past actor line event reply) (pages s past) none);
   apart = kept.apart;
-  seen = λ same. drivers_change_none s past actor line event reply right;
+  stay = λ same name. (λ held. held, λ held. held);
+  unpinned = λ is id. unpinned_by (pages s past) c archive kept (are is) id;
 }
 
-pub calls_seen : (archive : Shelves) (s : Setting) (past : List Entry) (actor line : ℕ) (event : DriverEvent) (reply : DriverReply) (c : Calls) → Right s (driven actor line event reply ∷ past) →
-    AreCallsAt archive (pages s (driven actor line event reply ∷ past)) c → AreCallsAt archive (pages s (driven actor line event reply ∷ past)) (calls_with c c.refs c.pins false)
-calls_seen archive s past actor line event reply c right kept = record {
-  own = record { tickets = kept.own.tickets; pins = kept.own.pins; latest = kept.own.latest };
-  refs_are = kept.refs_are;
-  numbers_are = kept.numbers_are;
-  tickets_are = kept.tickets_are;
-  latest_is = kept.latest_is;
-  apart = kept.apart;
-  seen = λ same. drivers_change_none s past actor line event reply right;
-}
+pub not_false : (b : Bool) → not b ≡ false → b ≡ true
+not_false true is = refl
+not_false false is = absurd (cc is)
+
+-- where no pin is open and none was, and calls hold what they held, they refer to what they referred to
+pub calls_stay : (archive : Shelves) (s : Setting) (past : List Entry) (c : Calls) (unpinned : Bool) → (unpinned ≡ true → c.pins.entries ≡ []) → Right s past → AreCallsAt archive (pages s past) c → c.holds_stay ≡ true → c.was_unpinned ≡ true → unpinned ≡ true →
+    references (pages s past) ≡ references_seen (pages s past)
+calls_stay archive s past c unpinned are right kept stays was now =
+    references_stay s past right (unpinned_by (pages s past) c archive kept (are now)) (kept.unpinned was) (kept.stay stays)
 
 -- ---- tickets
 
@@ -140,11 +153,11 @@ latest_with ps old refs tickets (Some l) are is kept = latest_at ps refs tickets
 
 -- ---- a snapshot is published
 
-pub calls_with_one : (archive : Shelves) (s : Setting) (past : List Entry) (actor line : ℕ) (event : DriverEvent) (reply : DriverReply) (c : Calls) (ticket : Where Snapshot) (tickets : List (Where Snapshot)) (l : Latest) →
+pub calls_with_one : (archive : Shelves) (s : Setting) (past : List Entry) (actor line : ℕ) (event : DriverEvent) (reply : DriverReply) (c : Calls) (ticket : Where Snapshot) (tickets : List (Where Snapshot)) (l : Latest) (unpinned : Bool) →
     Right s (driven actor line event reply ∷ past) → (page_of s (driven actor line event reply) (What.Driver event reply) past (pages s past)).snapshot ≡ Some ticket.value → IsTicketOf archive ticket →
-    tickets ≡ c.tickets ++ ticket ∷ [] → l.ticket ≡ ticket → l.number ≡ ticket.value.number → l.names ≡ None → AreCallsAt archive (pages s past) c →
-    AreCallsAt archive (pages s (driven actor line event reply ∷ past)) (record { alloc = c.alloc; refs = c.refs; pins = c.pins; tickets = tickets; latest = Some l; may_differ = c.may_differ })
-calls_with_one archive s past actor line event reply c ticket tickets l right made of grown own numbered named kept =
+    tickets ≡ c.tickets ++ ticket ∷ [] → l.ticket ≡ ticket → l.number ≡ ticket.value.number → l.names ≡ None → (unpinned ≡ true → c.pins.entries ≡ []) → AreCallsAt archive (pages s past) c →
+    AreCallsAt archive (pages s (driven actor line event reply ∷ past)) (calls_seen_with c tickets (Some l) unpinned)
+calls_with_one archive s past actor line event reply c ticket tickets l unpinned right made of grown own numbered named are kept =
     let p = page_at s past actor line event reply in
     let ps = pages s past in
     let refs : AreRefsAt (p ∷ ps) c.refs = refs_driven s past actor line event reply c.refs right kept.refs_are in
@@ -166,7 +179,8 @@ calls_with_one archive s past actor line event reply c ticket tickets l right ma
       tickets_are = ap values_of grown ∙ map_push (λ (t : Where Snapshot). t.value) c.tickets ticket ∙ ap (λ xs. xs ++ ticket.value ∷ []) kept.tickets_are ∙ sym (new_list p ps ticket.value made);
       latest_is = ap (λ x. Some x) value ∙ sym now;
       apart = kept.apart;
-      seen = λ same. drivers_change_none s past actor line event reply right;
+      stay = λ same name. (λ held. held, λ held. held);
+      unpinned = λ is id. unpinned_by (pages s past) c archive kept (are is) id;
     }
 
 -- ---- a pin
@@ -200,9 +214,9 @@ apart_by false own id new o hold n test none other is = other is
 pub calls_pinned : (archive : Shelves) (s : Setting) (past : List Entry) (actor line : ℕ) (call : Call) (reply : CallerReply) (c : Calls) (l : Latest) (names : List Name) (refs : References) (pins : BTreeMap CallId Pinning) (pin : Pinning) →
     Right s past → pinned (pages s past) call.id ≡ None → held (pages s past) call.id ≡ None → reply ≡ caller_reply (pages s past) (CallerEvent.Pin call) → c.latest ≡ Some l → pin ≡ record { number = l.number; ticket = l.ticket } →
     names ≡ names_in l.ticket.value → SetsPin c.refs refs call.id (Some (record { number = l.number; names = names })) → ((other : CallId) → lookup (is_call other) pins.entries ≡ (if is_call call.id other then Some pin else lookup (is_call other) c.pins.entries)) →
-    AreCallsAt archive (pages s past) c → AreCallsAt archive (pages s (called actor line (CallerEvent.Pin call) reply ∷ past)) (calls_with c refs pins true)
+    AreCallsAt archive (pages s past) c → AreCallsAt archive (pages s (called actor line (CallerEvent.Pin call) reply ∷ past)) (calls_with c refs pins c.holds_stay)
 calls_pinned archive s past actor line call reply c l names refs pins pin right none holds_none answers is made named set updates kept =
-    subst (λ r. AreCallsAt archive (pages s (called actor line (CallerEvent.Pin call) r ∷ past)) (calls_with c refs pins true)) (sym (answers ∙ ap pin_reply number)) whole
+    subst (λ r. AreCallsAt archive (pages s (called actor line (CallerEvent.Pin call) r ∷ past)) (calls_with c refs pins c.holds_stay)) (sym (answers ∙ ap pin_reply number)) whole
   where
     ps : List Page
     ps = pages s past
@@ -224,7 +238,7 @@ calls_pinned archive s past actor line call reply c l names refs pins pin right 
         (subst (λ n. SetsPin c.refs refs call.id (Some (record { number = n; names = names_in l.ticket.value }))) own_latest.number_is
         (subst (λ (ns : List Name). SetsPin c.refs refs call.id (Some (record { number = l.number; names = ns }))) named set))
 
-    whole : AreCallsAt archive (pages s (called actor line (CallerEvent.Pin call) (CallerReply.Pinned l.ticket.value.number) ∷ past)) (calls_with c refs pins true)
+    whole : AreCallsAt archive (pages s (called actor line (CallerEvent.Pin call) (CallerReply.Pinned l.ticket.value.number) ∷ past)) (calls_with c refs pins c.holds_stay)
     whole = record {
       own = record {
         tickets = kept.own.tickets;
@@ -241,8 +255,30 @@ calls_pinned archive s past actor line call reply c l names refs pins pin right 
       apart = λ id n has.
           apart_by (call.id.0 == id.0) call.id id (Some l.ticket.value.number) (pinned (pages s past) id) (held (pages s past)) n refl holds_none (kept.apart id n)
           (pinned_after_pin (pages s past) past actor line call (Some l.ticket.value.number) id ∙ has);
-      seen = λ same. absurd (cc same);
+      stay = kept.stay;
+      unpinned = kept.unpinned;
     }
+
+-- a pin before any snapshot
+pub calls_none : (archive : Shelves) (s : Setting) (past : List Entry) (actor line : ℕ) (call : Call) (reply : CallerReply) (c : Calls) → pinned (pages s past) call.id ≡ None → reply ≡ caller_reply (pages s past) (CallerEvent.Pin call) → c.latest ≡ None →
+    AreCallsAt archive (pages s past) c → AreCallsAt archive (pages s (called actor line (CallerEvent.Pin call) reply ∷ past)) c
+calls_none archive s past actor line call reply c none answers is kept =
+    subst (λ r. AreCallsAt archive (pages s (called actor line (CallerEvent.Pin call) r ∷ past)) c) (sym (answers ∙ ap pin_reply number)) (record {
+      own = record { tickets = kept.own.tickets; pins = kept.own.pins; latest = kept.own.latest };
+      refs_are = refs_unpinned (pages s past) past actor line call c.refs none kept.refs_are;
+      numbers_are = λ id. kept.numbers_are id ∙ still id;
+      tickets_are = kept.tickets_are ∙ same_snapshots (pages s past);
+      latest_is = kept.latest_is;
+      apart = λ id n has. kept.apart id n (still id ∙ has);
+      stay = kept.stay;
+      unpinned = kept.unpinned;
+    })
+  where
+    number : latest_number (pages s past) ≡ None
+    number = ap (option_map (λ (y : Snapshot). y.number)) (sym kept.latest_is ∙ ap (option_map (λ (m : Latest). m.ticket.value)) is)
+
+    still : (id : CallId) → pinned (pages s past) id ≡ pinned (caller_page (called actor line (CallerEvent.Pin call) CallerReply.NoSnapshot) past (pages s past) ∷ pages s past) id
+    still id = sym (still_at call.id (pinned (pages s past)) none id) ∙ pinned_after_pin (pages s past) past actor line call None id
 
 -- the names that are handed in are those of the latest snapshot
 pub named_by : (names : Option (List Name)) (o : Option Latest) (l : Latest) (ns : List Name) → names ≡ option_map (λ (m : Latest). names_in m.ticket.value) o → o ≡ Some l → names ≡ Some ns → ns ≡ names_in l.ticket.value
@@ -250,9 +286,14 @@ named_by names o l ns are is named =
     let same : Some ns ≡ Some (names_in l.ticket.value) = sym named ∙ are ∙ ap (option_map (λ (m : Latest). names_in m.ticket.value)) is in
     cc same
 
+-- where none are handed in, there is none
+pub latest_none : (names : Option (List Name)) (o : Option Latest) → names ≡ option_map (λ (m : Latest). names_in m.ticket.value) o → names ≡ None → o ≡ None
+latest_none names None are none = refl
+latest_none names (Some l) are none = let never = sym none ∙ are in absurd (cc never)
+
 -- nothing is pinned for want of memory
 pub calls_unpinned : (archive : Shelves) (ps : List Page) (c : Calls) (id : CallId) (refs : References) (pins : BTreeMap CallId Pinning) → pinned ps id ≡ None → SetsPin c.refs refs id None → pins.entries ≡ c.pins.entries →
-    AreCallsAt archive ps c → AreCallsAt archive ps (calls_with c refs pins c.may_differ)
+    AreCallsAt archive ps c → AreCallsAt archive ps (calls_with c refs pins c.holds_stay)
 calls_unpinned archive ps c id refs pins none set same kept =
     let now : AreRefsAt ps refs = pin_still ps c.refs refs id none kept.refs_are set in
     record {
@@ -266,7 +307,8 @@ calls_unpinned archive ps c id refs pins none set same kept =
       tickets_are = kept.tickets_are;
       latest_is = kept.latest_is;
       apart = kept.apart;
-      seen = kept.seen;
+      stay = kept.stay;
+      unpinned = kept.unpinned;
     }
 
 -- ---- the pin of a call
@@ -294,17 +336,41 @@ held_reply archive s past c call answer p is right routed kept =
 pub unheld_reply : (archive : Shelves) (ps : List Page) (c : Calls) (call : Call) → lookup (is_call call.id) c.pins.entries ≡ None → AreCallsAt archive ps c → CallerReply.NoSnapshot ≡ caller_reply ps (CallerEvent.Hold call)
 unheld_reply archive ps c call is kept = sym (ap (hold_reply ps call) (sym (number_at ps c call.id None is kept.numbers_are)))
 
+-- a hold without a pin
+pub calls_unheld : (archive : Shelves) (s : Setting) (past : List Entry) (actor line : ℕ) (call : Call) (reply : CallerReply) (c : Calls) → lookup (is_call call.id) c.pins.entries ≡ None → reply ≡ caller_reply (pages s past) (CallerEvent.Hold call) →
+    AreCallsAt archive (pages s past) c → AreCallsAt archive (pages s (called actor line (CallerEvent.Hold call) reply ∷ past)) c
+calls_unheld archive s past actor line call reply c is answers kept =
+    subst (λ r. AreCallsAt archive (pages s (called actor line (CallerEvent.Hold call) r ∷ past)) c) (unheld_reply archive (pages s past) c call is kept ∙ sym answers) (record {
+      own = record { tickets = kept.own.tickets; pins = kept.own.pins; latest = kept.own.latest };
+      refs_are = refs_unheld (pages s past) past actor line call c.refs none kept.refs_are;
+      numbers_are = λ id. kept.numbers_are id ∙ still id;
+      tickets_are = kept.tickets_are ∙ same_snapshots (pages s past);
+      latest_is = kept.latest_is;
+      apart = λ id n has. kept.apart id n (still id ∙ has);
+      stay = kept.stay;
+      unpinned = kept.unpinned;
+    })
+  where
+    none : pinned (pages s past) call.id ≡ None
+    none = sym (number_at (pages s past) c call.id None is kept.numbers_are)
+
+    still : (id : CallId) → pinned (pages s past) id ≡ pinned (caller_page (called actor line (CallerEvent.Hold call) CallerReply.NoSnapshot) past (pages s past) ∷ pages s past) id
+    still id = sym (still_at call.id (pinned (pages s past)) none id) ∙ pinned_after_hold (pages s past) past actor line call CallerReply.NoSnapshot id
+
 both_by : (b : Bool) (o : Option ℕ) (new old : Option Name) (n : ℕ) → (o ≡ Some n → old ≡ None) → (if b then None else o) ≡ Some n → (if b then new else old) ≡ None
 both_by true o new old n other is = absurd (cc is)
 both_by false o new old n other is = other is
 
+held_in : (ps : List Page) (refs : References) (name : Name) → AreRefsAt ps refs → IsHeld refs name → IsHeldBy (held ps) name
+held_in ps refs name are (id, is) = (id, sym (are.holds id) ∙ is)
+
 -- a hold that finds a route
-pub calls_held : (archive : Shelves) (s : Setting) (past : List Entry) (actor line : ℕ) (call : Call) (reply : CallerReply) (answer : RouteAnswer) (c : Calls) (p : Pinning) (refs : References) (pins : BTreeMap CallId Pinning) (name : Option Name) →
+pub calls_held : (archive : Shelves) (s : Setting) (past : List Entry) (actor line : ℕ) (call : Call) (reply : CallerReply) (answer : RouteAnswer) (c : Calls) (p : Pinning) (refs : References) (pins : BTreeMap CallId Pinning) (name : Option Name) (stays : Bool) →
     Right s past → IsRouted (pages s past) call answer → reply ≡ caller_reply (pages s past) (CallerEvent.Hold call) → lookup (is_call call.id) c.pins.entries ≡ Some p → name ≡ routed_to p.ticket.value.config.front answer →
     SetsBoth c.refs refs call.id name → ((other : CallId) → lookup (is_call other) pins.entries ≡ (if is_call call.id other then None else lookup (is_call other) c.pins.entries)) →
-    AreCallsAt archive (pages s past) c → AreCallsAt archive (pages s (called actor line (CallerEvent.Hold call) reply ∷ past)) (calls_with c refs pins true)
-calls_held archive s past actor line call reply answer c p refs pins name right routed answers is named set updates kept =
-    subst (λ r. AreCallsAt archive (pages s (called actor line (CallerEvent.Hold call) r ∷ past)) (calls_with c refs pins true)) (held_reply archive s past c call answer p is right routed kept ∙ sym answers) whole
+    (stays ≡ true → c.holds_stay ≡ true) → (stays ≡ true → IfSome name (IsHeld c.refs)) → AreCallsAt archive (pages s past) c → AreCallsAt archive (pages s (called actor line (CallerEvent.Hold call) reply ∷ past)) (calls_with c refs pins stays)
+calls_held archive s past actor line call reply answer c p refs pins name stays right routed answers is named set updates before others kept =
+    subst (λ r. AreCallsAt archive (pages s (called actor line (CallerEvent.Hold call) r ∷ past)) (calls_with c refs pins stays)) (held_reply archive s past c call answer p is right routed kept ∙ sym answers) whole
   where
     found : name ≡ found_in p.number answer (pages s past)
     found = named ∙ sym (ap (option_and_then (λ (x : Snapshot). routed_to x.config.front answer)) (pin_reads archive s past c call.id p is right kept))
@@ -312,7 +378,7 @@ calls_held archive s past actor line call reply answer c p refs pins name right 
     refs_now : AreRefsAt (caller_page (called actor line (CallerEvent.Hold call) (CallerReply.Routed p.number answer)) past (pages s past) ∷ pages s past) refs
     refs_now = refs_held (pages s past) past actor line call p.number answer c.refs refs kept.refs_are (subst (λ (o : Option Name). SetsBoth c.refs refs call.id o) found set)
 
-    whole : AreCallsAt archive (pages s (called actor line (CallerEvent.Hold call) (CallerReply.Routed p.number answer) ∷ past)) (calls_with c refs pins true)
+    whole : AreCallsAt archive (pages s (called actor line (CallerEvent.Hold call) (CallerReply.Routed p.number answer) ∷ past)) (calls_with c refs pins stays)
     whole = record {
       own = record {
         tickets = kept.own.tickets;
@@ -329,12 +395,16 @@ calls_held archive s past actor line call reply answer c p refs pins name right 
           sym (held_after_hold (pages s past) past actor line call p.number answer id)
           ∙ both_by (call.id.0 == id.0) (pinned (pages s past) id) (found_in p.number answer (pages s past)) (held (pages s past) id) n (kept.apart id n)
           (pinned_after_hold (pages s past) past actor line call (CallerReply.Routed p.number answer) id ∙ has);
-      seen = λ same. absurd (cc same);
+      stay = λ same.
+          hold_stays (pages s past) (held (caller_page (called actor line (CallerEvent.Hold call) (CallerReply.Routed p.number answer)) past (pages s past) ∷ pages s past)) call.id (found_in p.number answer (pages s past))
+          (kept.apart call.id p.number (sym (number_at (pages s past) c call.id (Some p) is kept.numbers_are))) (held_after_hold (pages s past) past actor line call p.number answer)
+          (subst (λ (o : Option Name). IfSome o (IsHeldBy (held (pages s past)))) found (IfSome_then name (others same) (λ n held_by. held_in (pages s past) c.refs n kept.refs_are held_by))) (kept.stay (before same));
+      unpinned = kept.unpinned;
     }
 
 -- nothing is held for want of memory
 pub calls_unchanged : (archive : Shelves) (ps : List Page) (c : Calls) (id : CallId) (p : Pinning) (refs : References) → lookup (is_call id) c.pins.entries ≡ Some p → SetsHold c.refs refs id None →
-    AreCallsAt archive ps c → AreCallsAt archive ps (calls_with c refs c.pins c.may_differ)
+    AreCallsAt archive ps c → AreCallsAt archive ps (calls_with c refs c.pins c.holds_stay)
 calls_unchanged archive ps c id p refs is set kept =
     let none : held ps id ≡ None = kept.apart id p.number (sym (number_at ps c id (Some p) is kept.numbers_are)) in
     let now : AreRefsAt ps refs = hold_still ps c.refs refs id none kept.refs_are set in
@@ -345,7 +415,8 @@ calls_unchanged archive ps c id p refs is set kept =
       tickets_are = kept.tickets_are;
       latest_is = kept.latest_is;
       apart = kept.apart;
-      seen = kept.seen;
+      stay = kept.stay;
+      unpinned = kept.unpinned;
     }
 
 -- ---- a commit
@@ -353,3 +424,22 @@ calls_unchanged archive ps c id p refs is set kept =
 none_by : (b : Bool) (old : Option Name) → old ≡ None → (if b then None else old) ≡ None
 none_by true old is = refl
 none_by false old is = is
+
+pub calls_released : (archive : Shelves) (s : Setting) (past : List Entry) (actor line : ℕ) (own : CallId) (reply : CallerReply) (c : Calls) (refs : References) (stays : Bool) → SetsHold c.refs refs own None → (stays ≡ true → c.holds_stay ≡ true) →
+    (stays ≡ true → IfSome (hold_of c.refs own) (IsHeld refs)) → AreCallsAt archive (pages s past) c → AreCallsAt archive (pages s (called actor line (CallerEvent.Commit own) reply ∷ past)) (calls_with c refs c.pins stays)
+calls_released archive s past actor line own reply c refs stays set before others kept =
+    let ps = pages s past in
+    let page = caller_page (called actor line (CallerEvent.Commit own) reply) past ps in
+    let now : AreRefsAt (page ∷ ps) refs = refs_released ps past actor line own reply c.refs refs kept.refs_are set in
+    record {
+      own = record { tickets = kept.own.tickets; pins = kept.own.pins; latest = latest_with (page ∷ ps) c.refs refs c.tickets c.latest now kept.latest_is kept.own.latest };
+      refs_are = now;
+      numbers_are = kept.numbers_are;
+      tickets_are = kept.tickets_are ∙ same_snapshots ps;
+      latest_is = kept.latest_is;
+      apart = λ id n has. sym (held_after_commit ps past actor line own reply id) ∙ none_by (own.0 == id.0) (held ps id) (kept.apart id n has);
+      stay = λ same.
+          release_stays ps (held (page ∷ ps)) own (held_after_commit ps past actor line own reply)
+          (subst (λ (o : Option Name). IfSome o (IsHeldBy (held (page ∷ ps)))) (kept.refs_are.holds own) (IfSome_then (hold_of c.refs own) (others same) (λ n held_by. held_in (page ∷ ps) refs n now held_by))) (kept.stay (before same));
+      unpinned = kept.unpinned;
+    }

@@ -1,5 +1,5 @@
 -- What is kept of calls, and what it is of the history.
-use Rattle.std.specs.Prelude.{◌≡◌, ℕ, ◌-◌, List, Some, None, IfSome, false, slice_get, option_map}
+use Rattle.std.specs.Prelude.{◌≡◌, ℕ, ◌-◌, List, Some, None, IfSome, true, slice_get, option_map}
 use Rattle.std.specs.Map.{lookup}
 use Rattle.boxcar.specs.Table.{Shelves, Where}
 use Rattle.xc_base.specs.declared.names.CallId.{CallId}
@@ -11,11 +11,12 @@ use Rattle.cluster_refs.specs.CallReferences.{References, is_call, IsListOf}
 use Rattle.snapshot_store.specs.Tickets.{AreTicketsOf, values_of}
 use Rattle.xds_history.specs.declared.page.Page.{Page}
 use Rattle.xds_history.specs.Page.{latest}
-use Rattle.xds_history.specs.References.{snapshot_at, pinned, held, names_in, references, references_seen, snapshots_of}
+use Rattle.xds_history.specs.References.{snapshot_at, pinned, held, names_in, snapshots_of}
 use Rattle.book_calls.specs.declared.pinning.Pinning.{Pinning}
 use Rattle.book_calls.specs.declared.latest_snapshot.Latest.{Latest}
 use Rattle.book_calls.specs.declared.calls.Calls.{Calls}
 use Rattle.book_calls.specs.RefsKept.{AreRefsAt}
+use Rattle.book_calls.specs.SeenReferences.{HoldsStay, WasUnpinned}
 
 -- ---- what holds of itself
 
@@ -47,7 +48,8 @@ pub record AreCallsAt (archive : Shelves) (ps : List Page) (c : Calls) : Type 0 
   pub tickets_are : values_of c.tickets ≡ snapshots_of ps
   pub latest_is : option_map (λ l. l.ticket.value) c.latest ≡ latest ps
   pub apart : (id : CallId) (number : ℕ) → pinned ps id ≡ Some number → held ps id ≡ None
-  pub seen : c.may_differ ≡ false → references ps ≡ references_seen ps
+  pub stay : c.holds_stay ≡ true → HoldsStay ps
+  pub unpinned : c.was_unpinned ≡ true → WasUnpinned ps
 
 -- the answer is the route of the call in the snapshot that it has pinned
 abbrev pub IsRouted : List Page → Call → RouteAnswer → Type 0

@@ -1,9 +1,8 @@
 -- Laws of what is kept of calls, and of what calls refer to.
-use Rattle.std.specs.Prelude.{◌≡◌, ℕ, List, ◌∷◌, None}
+use Rattle.std.specs.Prelude.{◌≡◌, ℕ, List, ◌∷◌}
 use Rattle.boxcar.specs.Table.{Shelves}
 use Rattle.xc_base.specs.declared.names.CallId.{CallId}
 use Rattle.call_journal.specs.declared.entry.Entry.{Entry}
-use Rattle.call_journal.specs.declared.entry.What.{What}
 use Rattle.call_journal.specs.declared.event.CallerEvent.{CallerEvent}
 use Rattle.call_journal.specs.declared.event.DriverEvent.{DriverEvent}
 use Rattle.call_journal.specs.declared.reply.CallerReply.{CallerReply}
@@ -12,7 +11,7 @@ use Rattle.cluster_refs.specs.CallReferences.{References, AreRetained}
 use Rattle.xds_history.specs.config_assembly.Orders.{Name}
 use Rattle.xds_history.specs.Setting.{Setting}
 use Rattle.xds_history.specs.References.{references}
-use Rattle.xds_history.specs.Pages.{pages, page_of, called, driven}
+use Rattle.xds_history.specs.Pages.{pages, called, driven}
 use Rattle.xds_history.specs.Right.{Right}
 use Rattle.book_calls.specs.declared.calls.Calls.{Calls}
 use Rattle.book_calls.specs.RefsKept.{AreRefsAt}
@@ -22,12 +21,6 @@ use Rattle.book_calls.specs.CallsKept.{AreCallsAt}
 abbrev pub PicksLeave : Type 0
 PicksLeave = (archive : Shelves) (s : Setting) (past : List Entry) (actor line : ℕ) (id : CallId) (word : ℕ) (reply : CallerReply) (c : Calls) → AreCallsAt archive (pages s past) c →
     AreCallsAt archive (pages s (called actor line (CallerEvent.Pick id word) reply ∷ past)) c
-
--- so does a driver's entry that publishes nothing
-abbrev pub DriversLeave : Type 0
-DriversLeave = (archive : Shelves) (s : Setting) (past : List Entry) (actor line : ℕ) (event : DriverEvent) (reply : DriverReply) (c : Calls) → Right s (driven actor line event reply ∷ past) →
-    (page_of s (driven actor line event reply) (What.Driver event reply) past (pages s past)).snapshot ≡ None → AreCallsAt archive (pages s past) c →
-    AreCallsAt archive (pages s (driven actor line event reply ∷ past)) c
 
 -- a driver's entry changes nothing of what calls refer to
 abbrev pub DriversChangeNoReferences : Type 0

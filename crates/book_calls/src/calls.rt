@@ -20,7 +20,7 @@ ghost use Rattle.book_calls.specs.CallsKept.{AreCallsAt, AreOwn, IsLatestOf, IsR
 use crate::host_clusters::routed_to;
 use crate::latest_snapshot::{Latest, latest_of, names_of};
 use crate::pinning::{Pinning, end_pinning, pinning_of, set_pinning};
-use crate::ref_steps::{end_hold, set_hold, set_pin};
+use crate::ref_steps::{end_hold, holds_stay, set_hold, set_pin};
 use call_journal::CallerReply;
 use cluster_refs::Refs;
 use cluster_tree::Snapshot;
@@ -42,8 +42,10 @@ pub struct Calls {
     pub tickets: List<Ticket<Snapshot>>,
     /// The snapshot that was published last.
     pub latest: Option<Latest>,
-    /// Whether a call began or ended to refer to something since the driver's last entry.
-    pub may_differ: bool,
+    /// Whether calls are known to hold the same clusters as at the driver's last entry.
+    pub holds_stay: bool,
+    /// Whether no pin was open at the driver's last entry.
+    pub was_unpinned: bool,
 }
 
 impl Calls {
@@ -58,7 +60,8 @@ impl Calls {
             pins: BTreeMap::new(alloc),
             tickets: List::new(alloc),
             latest: None,
-            may_differ: false,
+            holds_stay: true,
+            was_unpinned: true,
         }
     }
 
@@ -102,17 +105,13 @@ impl Calls {
         ensures err { OnErr result ((archive : Shelves) (ps : List Page) → pinned ps call.now.id ≡ None → AreCallsAt archive ps self.old → AreCallsAt archive ps self.new) }
     {
         let (Some(latest), Some(names)) = (&self.latest, &names) else {
-            self.may_differ = true;
             return Ok(None);
         };
         let kept = pinning_of(latest.number, &latest.ticket)?;
         let given = pinning_of(latest.number, &latest.ticket)?;
         set_pin(&mut self.refs, call.id, latest.number, names)?;
         match set_pinning(&mut self.pins, call.id, kept) {
-            Ok(()) => {
-                self.may_differ = true;
-                Ok(Some(given))
-            }
+            Ok(()) => Ok(Some(given)),
             Err(fault) => {
                 self.refs.unpin(call.id);
                 Err(fault)
@@ -168,15 +167,15 @@ impl Calls {
         ensures err { OnErr result ((ps : List Page) → AreCallsAt archive.now ps self.old → AreCallsAt archive.now ps self.new) }
     {
         let Some(pinning) = self.pins.get(&call.id) else {
-            self.may_differ = true;
             return Ok(CallerReply::NoSnapshot);
         };
         let number = pinning.number;
         let snapshot = archive.read(&pinning.ticket);
         let name = routed_to(&snapshot.config.get().front, answer);
+        let stays = holds_stay(self.holds_stay, &self.refs, name);
         set_hold(&mut self.refs, call.id, name)?;
         end_pinning(&mut self.pins, call.id);
-        self.may_differ = true;
+        self.holds_stay = stays;
         Ok(CallerReply::Routed {
             snapshot: number,
             answer: *answer,
@@ -189,9 +188,9 @@ impl Calls {
         ensures kept { (archive : Shelves) (s : Setting) (past : List EntryValue) (actor line : ℕ) (reply : Reply) → AreCallsAt archive (pages s past) self.old → AreCallsAt archive (pages s (called actor line (Asking.Commit call) reply ∷ past)) self.new }
         ensures tickets { self.new.tickets ≡ self.old.tickets }
     {
-        let had = end_hold(&mut self.refs, call);
-        self.may_differ = true;
-        had
+        let released = end_hold(&mut self.refs, call);
+        self.holds_stay = holds_stay(self.holds_stay, &self.refs, released.as_ref());
+        released.is_some()
     }
 
     /// The cluster that the call holds, if it holds one. It takes no memory.
@@ -231,23 +230,29 @@ impl Calls {
         Ok(names)
     }
 
-    /// Whether calls may refer to other clusters than at the driver's last entry. It takes no memory.
+    /// Whether calls may refer to other clusters than at the driver's last entry. They don't where no pin is open and none was
+    /// open then, and each cluster that a call began to hold or left since is held by other calls, too. It takes no memory.
     pub fn may_differ(&self) -> bool
-        ensures { (archive : Shelves) (ps : List Page) → AreCallsAt archive ps self.now → result ≡ false → references ps ≡ references_seen ps }
+        ensures { (archive : Shelves) (s : Setting) (past : List EntryValue) → Right s past → AreCallsAt archive (pages s past) self.now → result ≡ false → references (pages s past) ≡ references_seen (pages s past) }
     {
-        self.may_differ
+        if !self.holds_stay || !self.was_unpinned {
+            return true;
+        }
+        !self.pins.is_empty()
     }
 
-    /// The driver has seen what calls refer to. It takes no memory.
+    /// The driver has seen what calls refer to, at an entry that publishes nothing. It takes no memory.
     pub fn mark_seen(&mut self)
         ensures kept { (archive : Shelves) (s : Setting) (past : List EntryValue) (actor line : ℕ) (event : Driving) (reply : DriverReply) → Right s (driven actor line event reply ∷ past) →
-            AreCallsAt archive (pages s (driven actor line event reply ∷ past)) self.old → AreCallsAt archive (pages s (driven actor line event reply ∷ past)) self.new }
+            (page_of s (driven actor line event reply) (Happening.Driver event reply) past (pages s past)).snapshot ≡ None → AreCallsAt archive (pages s past) self.old → AreCallsAt archive (pages s (driven actor line event reply ∷ past)) self.new }
         ensures tickets { self.new.tickets ≡ self.old.tickets }
     {
-        self.may_differ = false;
+        self.holds_stay = true;
+        self.was_unpinned = self.pins.is_empty();
     }
 
-    /// A driver's entry publishes the snapshot of this ticket. It fails for want of memory alone, and then nothing changes.
+    /// A driver's entry publishes the snapshot of this ticket, and the driver has seen what calls refer to. It fails for want of
+    /// memory alone, and then nothing changes.
     pub fn publish(
         &mut self,
         archive: &Archive<Snapshot>,
@@ -263,6 +268,8 @@ impl Calls {
         let latest = latest_of(archive, &ticket)?;
         self.tickets.push(ticket)?;
         self.latest = Some(latest);
+        self.holds_stay = true;
+        self.was_unpinned = self.pins.is_empty();
         Ok(())
     }
 

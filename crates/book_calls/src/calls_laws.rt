@@ -1,6 +1,6 @@
 //! Laws of snapshots, pins and references.
 ghost use Rattle.book_calls.specs.PublishedSnapshots.{PinsHaveSnapshots, SnapshotsAreNumbered};
-ghost use Rattle.book_calls.specs.CallsLaws.{DriversChangeNoReferences, DriversLeave, PicksLeave, RetainedAreReferences};
+ghost use Rattle.book_calls.specs.CallsLaws.{DriversChangeNoReferences, PicksLeave, RetainedAreReferences};
 
 /// The snapshots of a right history are numbered in their order.
 #[tactic(auto, using(crate::proofs::SnapshotNumbers::are_numbered))]
@@ -29,9 +29,4 @@ pub fn retained_are_references()
 #[tactic(auto, using(crate::proofs::CallsProofs::picks_leave))]
 pub fn picks_leave()
     ensures { PicksLeave }
-{}
-
-/// So does a driver's entry that publishes nothing.
-pub fn drivers_leave()
-    ensures { DriversLeave }
 {}

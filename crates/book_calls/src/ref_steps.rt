@@ -1,7 +1,7 @@
 //! What calls refer to, one pin, hold or commit on.
-ghost use Rattle.std.specs.Prelude.{◌≡◌, Some, None, OnOk, OnErr, is_some};
+ghost use Rattle.std.specs.Prelude.{◌≡◌, Some, None, IfSome, IsTrue, OnOk, OnErr};
 ghost use Rattle.std.specs.Option.{option_copied};
-ghost use Rattle.cluster_refs.specs.CallReferences.{IsListOf, SetsPin, SetsHold, hold_of};
+ghost use Rattle.cluster_refs.specs.CallReferences.{IsHeld, IsListOf, SetsPin, SetsHold, hold_of};
 ghost use Rattle.book_calls.specs.RefsKept.{SetsBoth};
 
 use cluster_refs::Refs;
@@ -45,11 +45,23 @@ pub(crate) fn set_hold(refs: &mut Refs, call: CallId, name: Option<&Text>) -> Re
     Ok(())
 }
 
-/// Ends what the call holds, and answers whether it held a name.
-pub(crate) fn end_hold(refs: &mut Refs, call: CallId) -> bool
-    ensures had { result ≡ is_some (hold_of refs.old call) }
+/// Ends what the call holds, and answers the name that it held, if it held one.
+pub(crate) fn end_hold(refs: &mut Refs, call: CallId) -> Option<Text>
+    ensures held { result ≡ hold_of refs.old call }
     ensures gone { SetsHold refs.old refs.new call None }
 {
-    let had = refs.release(call);
-    had
+    let held = refs.release(call);
+    held
+}
+
+/// Whether calls stay known to hold the same names, where one begins to hold this name or has left it, if there is one: other
+/// calls hold it, too.
+pub(crate) fn holds_stay(stays: bool, refs: &Refs, name: Option<&Text>) -> bool
+    ensures before { IsTrue result → IsTrue stays }
+    ensures held { IsTrue result → IfSome (option_copied name.entry) (IsHeld refs.now) }
+{
+    match name {
+        Some(name) => stays && refs.is_held(name),
+        None => stays,
+    }
 }

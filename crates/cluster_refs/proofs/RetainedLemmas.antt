@@ -61,6 +61,13 @@ held_used refs name (call, is) =
     let some = once_self name in
     omega arith
 
+-- a name is held where it is counted
+pub held_counted : (before refs : References) (counts : List (Name × ℕ)) (name : Name) → before ≡ refs → AreKept before.pins before.holds counts → (0 < count_of counts name) ↔ IsHeld refs name
+held_counted before refs counts name is kept = subst (λ r. (0 < count_of counts name) ↔ IsHeld r name) is (
+  λ less. holds_have before.pins before.holds name kept.holds_ordered (subst (λ n. 0 < n) (kept.counted name) less),
+  λ held. subst (λ n. 0 < n) (sym (kept.counted name)) (held_used before name held),
+)
+
 -- what is put in of the pins of a list are the names of its pins
 pin_has : (refs : References) (name : Name) → IsStrictlySortedBy call_cmp (keys_of refs.pins) → (pin : Pin) → Contains (values_of refs.pins) pin → Contains pin.names name → IsPinned refs name
 pin_has refs name ordered pin has own = let at = found refs.pins pin ordered has in (at.0, pin, at.1, own)
@@ -88,4 +95,19 @@ retained before refs counts held keys names is kept counted keys_are names_are r
         (λ hold. pins_keep (put_in [] held) [] (values_of before.pins) name (put [] held name ((counted name).1 (subst (λ n. 0 < n) (sym (kept.counted name)) (held_used before name hold)))))
         some),
   );
+})
+
+no_pin : (pins : List (CallId × Pin)) (call : CallId) (pin : Pin) → pins ≡ [] → lookup (is_call call) pins ≡ Some pin → ⊥
+no_pin pins call pin none found = let never = sym (ap (lookup (is_call call)) none) ∙ found in cc
+
+-- where no pin is open, what is retained is what calls hold
+pub held_retained : (before refs : References) (counts : List (Name × ℕ)) (names : List Name) → before ≡ refs → AreKept before.pins before.holds counts → before.pins ≡ [] →
+    ((name : Name) → Contains names name ↔ (0 < count_of counts name)) → IsStrictlySortedBy name_cmp names → AreRetained refs names
+held_retained before refs counts names is kept none counted rising = subst (λ r. AreRetained r names) is (record {
+  rising = rising;
+  members = λ name.
+      let held = held_counted before before counts name refl kept in (
+        λ has. inr (held.0 ((counted name).0 has)),
+        λ some. ⊎_elim (λ (call, pin, found, own). absurd (no_pin before.pins call pin none found)) (λ hold. (counted name).1 (held.1 hold)) some,
+      );
 })

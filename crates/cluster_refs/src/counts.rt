@@ -1,6 +1,7 @@
 //! How many calls hold each name.
 ghost use Rattle.std.specs.Prelude.{◌≡◌, ◌↔◌, ◌<◌, ◌^◌, ℕ, List, ◌∷◌, [], map, Contains, OnOk, OnErr, IfOk};
-ghost use Rattle.cluster_refs.specs.ReferredNames.{count_of, Raises, Lowers};
+ghost use Rattle.std.specs.List.Sorted.{IsStrictlySortedBy};
+ghost use Rattle.cluster_refs.specs.ReferredNames.{count_of, name_cmp, Raises, Lowers};
 
 use std::alloc::Global;
 use std::collections::BTreeMap;
@@ -69,16 +70,10 @@ impl Counts {
         }
     }
 
-    /// Counts the name that is let go once less.
-    pub(crate) fn forget(&mut self, name: Text)
-        ensures { Lowers self.old self.new (name ∷ []) }
-    {
-        self.lower(&name);
-    }
-
     /// The names that are counted, in the order of their bytes.
     pub(crate) fn names(&self) -> Result<List<Text>, Memory>
-        ensures { IfOk result (λ names. (name : List ℕ) → Contains names name ↔ (0 < count_of self.now name)) }
+        ensures members { IfOk result (λ names. (name : List ℕ) → Contains names name ↔ (0 < count_of self.now name)) }
+        ensures rising { IfOk result (IsStrictlySortedBy name_cmp) }
     {
         let names: Vec<&Text> = self.counts.keys().collect(self.alloc)?;
         copies(self.alloc, names.as_slice())

@@ -5,7 +5,7 @@ ghost use Rattle.std.specs.BTreeMap.{insert_entry};
 ghost use Rattle.std.specs.List.Sorted.{IsStrictlySortedBy};
 ghost use Rattle.std.specs.Map.{lookup, keys_of};
 ghost use Rattle.xc_base.specs.declared.names.CallId.{CallId};
-ghost use Rattle.cluster_refs.specs.CallReferences.{call_cmp, is_call, pin_of, hold_of, IsListOf, SetsPin, SetsHold, AreRetained};
+ghost use Rattle.cluster_refs.specs.CallReferences.{call_cmp, is_call, pin_of, hold_of, IsHeld, IsListOf, SetsPin, SetsHold, AreRetained};
 
 use crate::counts::Counts;
 use crate::pins::{Pin, in_order, put_names, put_pins};
@@ -105,18 +105,25 @@ impl Refs {
         }
     }
 
-    /// Ends what the call holds. It answers whether it held a name, and takes no memory.
-    pub fn release(&mut self, call: CallId) -> bool
-        ensures had { IsTrue result ↔ IsSome (hold_of self.old call) }
+    /// Ends what the call holds. It answers the name that it held, if it held one, and takes no memory.
+    pub fn release(&mut self, call: CallId) -> Option<Text>
+        ensures held { result ≡ hold_of self.old call }
         ensures gone { SetsHold self.old self.new call None }
     {
         match self.holds.remove(&call) {
             Some(name) => {
-                self.counts.forget(name);
-                true
+                self.counts.lower(&name);
+                Some(name)
             }
-            None => false,
+            None => None,
         }
+    }
+
+    /// Whether a call holds the name. It takes no memory.
+    pub fn is_held(&self, name: &Text) -> bool
+        ensures { IsTrue result ↔ IsHeld self.now name.now }
+    {
+        self.counts.of(name) > 0
     }
 
     /// The name that the call holds, if it holds one.
@@ -131,6 +138,9 @@ impl Refs {
         ensures { IfOk result (AreRetained self.now) }
     {
         let held = self.counts.names()?;
+        if self.pins.is_empty() {
+            return Ok(held);
+        }
         let pins: Vec<&Pin> = self.pins.values().collect(self.alloc)?;
         let mut names = BTreeSet::new(self.alloc);
         put_names(&mut names, held.as_slice())?;

@@ -22,7 +22,6 @@ use Rattle.book_calls.specs.xds_history.References.{references}
 use Rattle.book_calls.specs.xds_history.Right.{Right}
 use Rattle.book_calls.specs.CallsKept.{AreCallsAt}
 use Rattle.book_calls.specs.declared.calls.Calls.{Calls}
-use Rattle.book_calls.proofs.CallsProofs.{drivers_leave}
 use Rattle.book_driver.proofs.book_trees.DueNumberLemmas.{latest_shows_what_stands}
 use Rattle.book_picks.specs.declared.kept_turns.Turns.{Turns}
 use Rattle.book_driver.specs.DriverKept.{IsDueAt, IsStepAt, reply_in}
@@ -53,8 +52,10 @@ on_err (Err e) P is p = p
 
 -- ---- tickets
 
-pub publishes_none : (archive : Shelves) (calls : Calls) → Publishes archive None calls calls
-publishes_none archive calls = λ s past line event reply right none kept. drivers_leave archive s past 0 line event reply calls right none kept
+pub publishes_none : (archive : Shelves) (calls new : Calls) → ((s : Setting) (past : List Entry) (actor line : ℕ) (event : DriverEvent) (reply : DriverReply) → Right s (driven actor line event reply ∷ past)
+    → (page_of s (driven actor line event reply) (What.Driver event reply) past (pages s past)).snapshot ≡ None → AreCallsAt archive (pages s past) calls → AreCallsAt archive (pages s (driven actor line event reply ∷ past)) new)
+    → Publishes archive None calls new
+publishes_none archive calls new kept = λ s past line event reply right none at. kept s past 0 line event reply right none at
 
 pub publishes_some : {T E : Type 0} (result : Result T E) (archive : Shelves) (ticket : Where Snapshot) (calls new : Calls)
     → OnOk result ((s : Setting) (past : List Entry) (actor line : ℕ) (event : DriverEvent) (reply : DriverReply) → Right s (driven actor line event reply ∷ past)
@@ -91,26 +92,23 @@ entry_is past after actor line event stepped number driver is entries =
     entries ∙ ap (λ (n : Option ℕ). entry_of actor line (What.Driver event (reply_with stepped n)) ∷ past) is ∙ ap (λ a. driven a line event (reply_in stepped) ∷ past) driver
 
 -- the entry and all that it leaves
-pub record IsDriven (plan : Option (List (List Listed))) (archive : Shelves) (s : Setting) (old new : CountedView) (calls mid after : Calls) (turns turned : Turns) (next : Driver) (refused texts : List Name) (ticket : Option (Where Snapshot))
+pub record IsDriven (plan : Option (List (List Listed))) (archive : Shelves) (s : Setting) (old new : CountedView) (calls after : Calls) (turns turned : Turns) (next : Driver) (refused texts : List Name) (ticket : Option (Where Snapshot))
     (line : ℕ) (event : DriverEvent) (prepared : Option Prepared) (stepped : Stepped) : Type 0 where
   pub at : IsStepAt s old.entries event prepared stepped next
   pub renews : Renews next.trees.trees.trees stepped.published turns turned
   pub value : snapshot_in ticket ≡ option_map snapshot_by stepped.published
   pub stored : IfSome ticket (IsTicketOf archive)
-  pub publishes : Publishes archive ticket calls mid
-  pub tickets : mid.tickets ≡ calls.tickets ++ option_to_list ticket
-  pub seen : (s : Setting) (past : List Entry) (actor line : ℕ) (event : DriverEvent) (reply : DriverReply) → Right s (driven actor line event reply ∷ past) → AreCallsAt archive (pages s (driven actor line event reply ∷ past)) mid
-      → AreCallsAt archive (pages s (driven actor line event reply ∷ past)) after
-  pub same : after.tickets ≡ mid.tickets
+  pub publishes : Publishes archive ticket calls after
+  pub tickets : after.tickets ≡ calls.tickets ++ option_to_list ticket
   pub texts_are : texts ≡ refused ++ stepped.refused
   pub entries : new.entries ≡ driven 0 line event (reply_in stepped) ∷ old.entries
   pub counts : new.counts ≡ counts_of (length old.counts) new.entries
 
-kept_with_driven : (plan : Option (List (List Listed))) (archive : Shelves) (s : Setting) (old new : CountedView) (calls mid after : Calls) (turns turned : Turns) (next : Driver) (refused texts : List Name) (ticket : Option (Where Snapshot))
+kept_with_driven : (plan : Option (List (List Listed))) (archive : Shelves) (s : Setting) (old new : CountedView) (calls after : Calls) (turns turned : Turns) (next : Driver) (refused texts : List Name) (ticket : Option (Where Snapshot))
     (line : ℕ) (event : DriverEvent) (prepared : Option Prepared) (stepped : Stepped) (own : Shelves) → IsBook plan archive s own old calls.tickets refused
-    → IsDriven plan archive s old new calls mid after turns turned next refused texts ticket line event prepared stepped → IsKeptWith archive s (driven 0 line event (reply_in stepped)) old.entries after.tickets refused texts
-kept_with_driven plan archive s old new calls mid after turns turned next refused texts ticket line event prepared stepped own book d =
-    let is : after.tickets ≡ calls.tickets ++ option_to_list ticket = d.same ∙ d.tickets in
+    → IsDriven plan archive s old new calls after turns turned next refused texts ticket line event prepared stepped → IsKeptWith archive s (driven 0 line event (reply_in stepped)) old.entries after.tickets refused texts
+kept_with_driven plan archive s old new calls after turns turned next refused texts ticket line event prepared stepped own book d =
+    let is : after.tickets ≡ calls.tickets ++ option_to_list ticket = d.tickets in
     record {
       stored = subst (λ (ts : List (Where Snapshot)). AreTicketsOf archive ts) (sym is) (more_stored archive calls.tickets ticket book.stored d.stored);
       snapshots = ap values_of is ∙ more_snapshots s old.entries line event (reply_in stepped) calls.tickets ticket book.snapshots (d.at.snapshot_is line ∙ sym d.value);
@@ -119,20 +117,20 @@ kept_with_driven plan archive s old new calls mid after turns turned next refuse
       texts_are = d.texts_are;
     }
 
-pub kept_after_drive : (plan : Option (List (List Listed))) (archive : Shelves) (boot : Bootstrap) (target : Target) (own : Shelves) (old new : CountedView) (calls mid after : Calls) (turns turned : Turns) (driver next : Driver) (refused texts : List Name)
+pub kept_after_drive : (plan : Option (List (List Listed))) (archive : Shelves) (boot : Bootstrap) (target : Target) (own : Shelves) (old new : CountedView) (calls after : Calls) (turns turned : Turns) (driver next : Driver) (refused texts : List Name)
     (ticket : Option (Where Snapshot)) (count : Count) (line : ℕ) (event : DriverEvent) (prepared : Option Prepared) (stepped : Stepped) → IsBook plan archive (setting_of boot target) own old calls.tickets refused
     → IsReady archive (setting_of boot target) old.entries calls turns driver → slice_get old.counts 0 ≡ Some count → IsNext plan 0 count line (played.driver event) old.entries → length old.entries < most_entries
-    → IsDriven plan archive (setting_of boot target) old new calls mid after turns turned next refused texts ticket line event prepared stepped
+    → IsDriven plan archive (setting_of boot target) old new calls after turns turned next refused texts ticket line event prepared stepped
     → IsKeptIn plan archive (setting_of boot target) own new after turned next texts false
-kept_after_drive plan archive boot target own old new calls mid after turns turned driver next refused texts ticket count line event prepared stepped book ready get listed few d =
+kept_after_drive plan archive boot target own old new calls after turns turned driver next refused texts ticket count line event prepared stepped book ready get listed few d =
     let s = setting_of boot target in
     let e = driven 0 line event (reply_in stepped) in
     let right : Right s (e ∷ old.entries) = (d.at.reply_is line, book.right) in
-    let kept = d.seen s old.entries 0 line event (reply_in stepped) right (d.publishes s old.entries line event (reply_in stepped) right (d.at.snapshot_is line ∙ sym d.value) ready.calls_are) in
+    let kept = d.publishes s old.entries line event (reply_in stepped) right (d.at.snapshot_is line ∙ sym d.value) ready.calls_are in
     record {
       book = book_with plan archive s own old calls.tickets after.tickets refused texts e new book
           (next_driven plan s old.counts old.entries 0 line count event (reply_in stepped) book.counted get refl listed (d.at.reply_is line) few)
-          (kept_with_driven plan archive s old new calls mid after turns turned next refused texts ticket line event prepared stepped own book d)
+          (kept_with_driven plan archive s old new calls after turns turned next refused texts ticket line event prepared stepped own book d)
           (d.counts ∙ ap (λ (h : List Entry). counts_of (length old.counts) h) d.entries) d.entries;
       ready = λ going. subst (λ (h : List Entry). IsReady archive s h after turned next) (sym d.entries)
           (driven_ready archive boot target old.entries line event prepared stepped calls after turns turned driver next book.listener book.right ready d.at d.renews kept);

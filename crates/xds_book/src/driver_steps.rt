@@ -118,7 +118,7 @@ fn store<R: Wait + Sync>(
     }
 }
 
-/// Has calls take the snapshot of a ticket, if there is one.
+/// Has calls take the snapshot of a ticket, if there is one, and see what they refer to.
 fn publish(
     archive: &Archive<Snapshot>,
     calls: &mut Calls,
@@ -130,6 +130,7 @@ fn publish(
     ensures err { OnErr result (calls.new ≡ calls.old) }
 {
     let Some(ticket) = ticket else {
+        calls.mark_seen();
         return Ok(());
     };
     calls.publish(archive, ticket)
@@ -201,7 +202,6 @@ impl<J: Job> Book<J> {
             lane.refused.truncate(before.1);
             return Err(AllocError);
         }
-        self.calls.mark_seen();
         add_entry(&mut self.journal, lane, line, What::Driver { event, reply });
         self.is_spent = false;
         Ok(())

@@ -1,6 +1,5 @@
 use Rattle.std.proofs.Common.{sym, ◌∙◌}
-use Rattle.book_calls.specs.xds_history.Pages.{pages}
 use Rattle.xds_book.proofs.driver_steps.new_references.Goals as goal
 
 pub returns-then-not-may_differ : goal.returns-then-not-may_differ
-returns-then-not-may_differ c = λ archive s past last right kept names. names ∙ sym (c.may_differ.ensures archive (pages s past) kept c.if-not-may_differ.true)
+returns-then-not-may_differ c = λ archive s past last right kept names. names ∙ sym (c.may_differ.ensures archive s past right kept c.if-not-may_differ.true)

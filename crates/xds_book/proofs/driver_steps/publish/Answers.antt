@@ -8,7 +8,7 @@ use Rattle.xds_book.proofs.driver_steps.publish.Goals as goal
 
 pub returns-in_default-clause-kept : goal.returns-in_default-clause-kept
 returns-in_default-clause-kept c =
-    subst (λ (t : Option (Where Snapshot)). Publishes c.args.archive.now t c.args.calls.now c.args.calls.now) (sym c.in_default.is) (publishes_none c.args.archive.now c.args.calls.now)
+    subst (λ (t : Option (Where Snapshot)). Publishes c.args.archive.now t c.args.calls.now c.mark_seen.new.self) (sym c.in_default.is) (publishes_none c.args.archive.now c.args.calls.now c.mark_seen.new.self (c.mark_seen.ensures.kept c.args.archive.now))
 
 pub returns-clause-kept : goal.returns-clause-kept
 returns-clause-kept c =

@@ -1,7 +1,8 @@
 use Rattle.std.proofs.Common.{None, refl}
 use Rattle.book_calls.proofs.RefSteps.{pin_over}
-use Rattle.book_calls.proofs.CallsProofs.{calls_pinned, calls_unpinned, if_failed, latest_is_of, named_by}
+use Rattle.book_calls.proofs.CallsProofs.{calls_none, calls_pinned, calls_unpinned, if_failed, latest_is_of, latest_none, named_by}
 use Rattle.book_calls.proofs.calls.Calls.pin_latest.Goals as goal
+use Rattle.book_calls.proofs.calls.Calls.pin_latest.Goals.{in_default-via-in-Some+in_default, in_default-via-in_default}
 
 pub returns-in_err-set_pin-clause-err : goal.returns-in_err-set_pin-clause-err
 returns-in_err-set_pin-clause-err c =
@@ -20,3 +21,10 @@ pub returns-clause-err : goal.returns-clause-err
 returns-clause-err c = λ archive ps none kept.
     calls_unpinned archive ps c.args.self.now c.args.call.now.id c.unpin.new.self c.set_pinning.new.pins none
     (pin_over c.args.self.now.refs c.set_pin.new.refs c.unpin.new.self c.args.call.now.id _ None c.in_ok-set_pin.ensures.ok c.unpin.ensures.gone) c.in-Err.ensures.err kept
+
+pub returns-in_default-clause-kept : goal.returns-in_default-clause-kept
+returns-in_default-clause-kept c = λ archive s past actor line reply right none holds_none answers kept.
+    elim c.in_default.branch [
+      | in_default-via-in-Some+in_default w ↦ rw (w.self-is) (calls_none archive s past actor line c.args.call.now reply c.args.self.now none answers (latest_none c.args.names c.args.self.now.latest c.requires.names w.in_default.is-1) kept)
+      | in_default-via-in_default w ↦ rw (w.self-is) (calls_none archive s past actor line c.args.call.now reply c.args.self.now none answers w.in_default.is-0 kept)
+    ]

@@ -112,7 +112,7 @@ invariant_of-self-2 g c =
     let stored = rw (c.get.ensures, c.self.invariant.book.archive_is) at c.in_ok-ticket.ensures.stored in
     let publishes = rw (c.get-3.ensures, c.self.invariant.book.archive_is) at (on_ok c.publish.result _ went c.publish.ensures.kept) in
     let entries = entry_is past c.add_entry.new.journal.entries c.lane.inside.actor c.args.line c.args.event c.in_ok-stepped.stepped (number_in c.in_ok-stepped.stepped.published) actor refl (rw (c.in_ok-reply.ensures.reply) at c.add_entry.ensures.entries) in
-    kept_after_drive g.J.Job.plan g.J.Job.archive g.J.Job.boot g.J.Job.target c.self.inside.archive c.self.inside.journal c.add_entry.new.journal c.self.inside.calls c.publish.new.calls c.mark_seen.new.self c.self.inside.turns c.store.new.turns
+    kept_after_drive g.J.Job.plan g.J.Job.archive g.J.Job.boot g.J.Job.target c.self.inside.archive c.self.inside.journal c.add_entry.new.journal c.self.inside.calls c.publish.new.calls c.self.inside.turns c.store.new.turns
     c.self.inside.driver c.step.new.self c.self.inside.refused c.add_to_both.new.one c.in_ok-ticket.ticket c.lane.inside.count c.args.line c.args.event c.args.prepared c.in_ok-stepped.stepped c.self.invariant.book ready
     (rw (actor) at get) (rw (actor) at listed) few
     (record {
@@ -122,8 +122,6 @@ invariant_of-self-2 g c =
       stored = stored;
       publishes = publishes;
       tickets = on_ok c.publish.result _ went c.publish.ensures.tickets;
-      seen = c.mark_seen.ensures.kept g.J.Job.archive;
-      same = c.mark_seen.ensures.tickets;
       texts_are = rw (c.as_slice.ensures, c.get-2.ensures, c.in_ok-reply.ensures.reply) at c.in_ok-add_to_both.ensures.one;
       entries = entries;
       counts = c.add_entry.ensures.counts;
@@ -140,7 +138,7 @@ returns-clause-entry g c =
     let due = due_at g.J.Job.archive g.J.Job.boot g.J.Job.target past c.in_ok-references.references c.latest_number-latest.result c.self.inside.calls c.self.inside.turns c.self.inside.driver c.self.invariant.book.listener c.self.invariant.book.right ready names latest in
     let at = c.in_ok-stepped.ensures.step s past due in
     let view = view_of c.self.inside.journal c.self.inside.calls.tickets c.self.inside.is_spent in
-    let new = view_of c.add_entry.new.journal c.mark_seen.new.self.tickets false in
+    let new = view_of c.add_entry.new.journal c.publish.new.calls.tickets false in
     let lane = lane_with c.lane.inside.actor c.lane.inside.refused c.lane.inside.count in
     rw (← c.self.view_is, ← c.lane.view_is)
     (drives_by s past c.args.line c.args.event c.args.prepared c.in_ok-stepped.stepped c.step.new.self view new lane c.add_entry.new.lane (number_in c.in_ok-stepped.stepped.published) c.add_to_both.new.other at refl
@@ -159,4 +157,4 @@ pub returns-clause-tickets : goal.returns-clause-tickets
 returns-clause-tickets g c =
     let went = sym c.is_err.ensures.value ∙ c.if-is_err.false in
     rw (← c.self.view_is)
-    (taken_front c.self.inside.calls.tickets _ c.mark_seen.new.self.tickets (c.mark_seen.ensures.tickets ∙ on_ok c.publish.result _ went c.publish.ensures.tickets))
+    (taken_front c.self.inside.calls.tickets _ c.publish.new.calls.tickets (on_ok c.publish.result _ went c.publish.ensures.tickets))
