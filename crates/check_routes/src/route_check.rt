@@ -263,5 +263,6 @@ pub fn routes<P: Patterns>(
         let kept = kept_route(alloc, asked, patterns, place as u32, &raws[place])?;
         add(&mut routes, kept)?;
     }
-    Ok(Routes::from_list(routes))
+    let routes = Routes::of(alloc, routes)?;
+    Ok(routes)
 }

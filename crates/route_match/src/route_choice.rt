@@ -3,9 +3,10 @@ ghost use Rattle.std.specs.Prelude.{◌≡◌, ◌≤◌, ◌<◌, ◌+◌, ◌*
 ghost use Rattle.std.specs.List.{list_all};
 ghost use Rattle.xds_config.specs.RouteValues.{IsLawfulRoute, IsLawfulAction, IsLawfulSplit, weights_of};
 ghost use Rattle.xds_config.specs.Configs.{IsLawfulFront};
+ghost use Rattle.xds_config.specs.PathLengths.{length_test};
 ghost use Rattle.weight_pick.specs.Weights.{place_by_weight};
 ghost use Rattle.header_match.specs.Headers.{header_met};
-ghost use Rattle.route_match.specs.Routes.{path_met, share_met, route_met, routes_of, led, routed, route, tried, routes_tried};
+ghost use Rattle.route_match.specs.Routes.{path_met, share_met, route_met, led, routed, route, tried, routes_tried};
 
 use crate::answer::RouteAnswer;
 use header_match::texts::{begins_with, is_same};
@@ -14,7 +15,7 @@ use std::alloc::Global;
 use std::sync::ledger::Ledger;
 use weight_pick::{Fraction, fraction_met};
 use xc_base::{Call, Memory, Reason, Steps, draw};
-use xds_config::{Action, Front, Host, PathTest, Route, Weighted};
+use xds_config::{Action, Front, Host, LengthTest, PathTest, Route, Routes, Weighted};
 
 /// Where a call goes (gRFC A28): by the route of least place among those of the front's virtual host whose
 /// path, headers and fraction hold. It counts one step for each route that is tried, and takes memory
@@ -31,7 +32,10 @@ pub fn choose_route<L: Ledger>(
     ensures later { steps.old ≤ steps.new }
 {
     match front {
-        Ok(front) => take_route(alloc, routes_of(front), call, steps),
+        Ok(front) => match host_of(front) {
+            Some(host) => take_route(alloc, &host.routes, call, steps),
+            None => Ok(RouteAnswer::NoRoute),
+        },
         Err(reason) => Ok(RouteAnswer::NoFront { reason: *reason }),
     }
 }
@@ -43,20 +47,11 @@ pub(crate) fn host_of(front: &Front) -> Option<&Host>
     front.routes.get().hosts.as_slice().get(front.host as usize)
 }
 
-/// The routes of a front's virtual host.
-fn routes_of(front: &Front) -> &[Route]
-    ensures { result.now ≡ routes_of front.now }
-{
-    match host_of(front) {
-        Some(host) => host.routes.as_slice(),
-        None => &[],
-    }
-}
-
-/// Where the first of the routes that is for the call leads it.
+/// Where the first of the routes that is for the call leads it. Of a route that the path's length rules out no more is read than
+/// what its test says of the length.
 fn take_route<L: Ledger>(
     alloc: Global,
-    routes: &[Route],
+    routes: &Routes,
     call: &Call,
     steps: &mut Steps<L>,
 ) -> Result<RouteAnswer, Memory>
@@ -67,43 +62,53 @@ fn take_route<L: Ledger>(
     ensures later { steps.old ≤ steps.new }
 {
     let path = call.path.as_str();
-    for route in routes {
+    let tests = routes.length_tests();
+    let list = routes.as_slice();
+    for at in 0..list.len() {
         steps.tick();
-        if route_met(alloc, path, call, route)? {
+        let route = &list[at];
+        if is_for(alloc, path, call, tests[at], route)? {
             return Ok(destination(call.word, route));
         }
     }
     Ok(RouteAnswer::NoRoute)
 }
 
-/// Whether a route is for a call of this path: its path, all its headers and its fraction hold.
+/// Whether a route is for a call of this path, of which its test says this of the length.
+#[inline(always)]
+fn is_for(
+    alloc: Global,
+    path: &str,
+    call: &Call,
+    test: LengthTest,
+    route: &Route,
+) -> Result<bool, Memory>
+    requires own { path.now ≡ call.now.path }
+    requires small { route.now.place < 2 ^ 31 }
+    requires test { test ≡ length_test route.now.path }
+    ensures { IfOk result (λ met. met ≡ route_met call.now route.now) }
+{
+    if !test.is_met(path.len()) {
+        return Ok(false);
+    }
+    route_met(alloc, path, call, route)
+}
+
+/// Whether a route is for a call of this path: its path, all its headers and its fraction hold. Few paths have a length that fits a
+/// test, so that its code stands apart from the walk over the routes.
+#[inline(never)]
 fn route_met(alloc: Global, path: &str, call: &Call, route: &Route) -> Result<bool, Memory>
     requires own { path.now ≡ call.now.path }
     requires small { route.now.place < 2 ^ 31 }
     ensures { IfOk result (λ met. met ≡ route_met call.now route.now) }
 {
-    if !fits(&route.path, path) {
-        return Ok(false);
-    }
     if !path_met(&route.path, path)? || !headers_met(alloc, route.headers.as_slice(), call)? {
         return Ok(false);
     }
     Ok(share_met(route.fraction, draw(call.word, 2 * route.place)))
 }
 
-/// Whether a path is long enough for a test, or of its very length. This tells most paths apart, and costs no call.
-fn fits(test: &PathTest, path: &str) -> bool
-    ensures { result ≡ false → path_met test.now path.now ≡ false }
-{
-    match test {
-        PathTest::Prefix { text, .. } => text.len() <= path.len(),
-        PathTest::Whole { text, .. } => text.len() == path.len(),
-        PathTest::Pattern(_) => true,
-    }
-}
-
-/// Whether a path meets a test. Few paths fit one, so that its code stands apart from the walk over the routes.
-#[inline(never)]
+/// Whether a path meets a test.
 fn path_met(test: &PathTest, path: &str) -> Result<bool, Memory>
     ensures { IfOk result (λ met. met ≡ path_met test.now path.now) }
 {
@@ -115,8 +120,7 @@ fn path_met(test: &PathTest, path: &str) -> Result<bool, Memory>
     }
 }
 
-/// Whether a call meets all header rules of a route. It stands apart, too.
-#[inline(never)]
+/// Whether a call meets all header rules of a route.
 fn headers_met(alloc: Global, rules: &[HeaderRule], call: &Call) -> Result<bool, Memory>
     ensures { IfOk result (λ met. met ≡ list_all (λ rule. header_met rule call.now) rules.now) }
 {

@@ -8,6 +8,7 @@ pub mod endpoint_values;
 pub mod listener_values;
 pub mod ordered_clusters;
 pub mod ordered_routes;
+pub mod path_lengths;
 pub mod route_values;
 pub mod value;
 
@@ -17,5 +18,6 @@ pub use endpoint_values::{EndpointValue, Locality, LocalityId};
 pub use listener_values::{ListenerValue, RoutesFrom};
 pub use ordered_clusters::Clusters;
 pub use ordered_routes::Routes;
+pub use path_lengths::LengthTest;
 pub use route_values::{Action, Host, PathTest, Route, RouteValue, Weighted};
 pub use value::Value;

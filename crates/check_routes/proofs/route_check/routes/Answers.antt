@@ -38,4 +38,7 @@ loop-place-preserved g c = record {
 }
 
 pub returns-clause-value : goal.returns-clause-value
-returns-clause-value g c = rw c.from_list.ensures (routes_end c.args.raws.now c.loop-place.place c.loop-place.routes c.loop-place-test.false c.loop-place.invariant.value)
+returns-clause-value g c = rw c.in_ok-routes.ensures (routes_end c.args.raws.now c.loop-place.place c.loop-place.routes c.loop-place-test.false c.loop-place.invariant.value)
+
+pub returns-in_err-routes-clause-asked : goal.returns-in_err-routes-clause-asked
+returns-in_err-routes-clause-asked g c = ends_so c.loop-place.invariant.asked
