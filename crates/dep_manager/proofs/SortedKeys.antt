@@ -11,7 +11,11 @@ use Rattle.xc_base.specs.declared.names.Key.{Key}
 use Rattle.xc_keys.specs.Keys.{is_key, key_cmp}
 use Rattle.xc_keys.proofs.KeyLemmas.{exact_keys, key_total, same_key}
 use Rattle.xc_keys.proofs.MemberLemmas.{here, there}
+use Rattle.config_assembly.specs.Orders.{Name}
+use Rattle.config_assembly.specs.ReachedResources.{Resources}
+use Rattle.config_assembly.specs.Reach.{keys_with, reach, reached_clusters}
 use Rattle.config_assembly.specs.Watching.{has_key}
+use Rattle.config_assembly.proofs.SortedLists.{sorted_rises}
 use Rattle.dep_manager.specs.KeptAssemblies.{least_of}
 
 -- ---- the members that pass a test
@@ -48,3 +52,11 @@ pub all_kept : (p : Key → Bool) (keys those : List Key) (i : ℕ) → length k
     ((key : Key) → has_key those key ≡ (if has_key (take i keys) key then p key else false)) → those ≡ filter p keys
 all_kept p keys those i within rising also have =
     are_kept p keys those rising also (λ key. have key ∙ ap (λ all. if has_key all key then p key else false) (take_all i keys within) ∙ either_at (has_key keys key) (p key))
+
+-- what is reached rises
+pub reach_rises : (r : Resources) (references : List Name) → IsStrictlySortedBy key_cmp (reach r references)
+reach_rises r references = sorted_rises key_cmp key_total (keys_with r (reached_clusters r references))
+
+pub none_rise : IsStrictlySortedBy key_cmp []
+unfolding IsStrictlySortedBy
+none_rise = tt

@@ -1,9 +1,9 @@
 -- The places of clusters of which a leaf has its endpoints from a key that changed.
 use Rattle.std.proofs.Common.{◌≡◌, ◌<◌, ◌≤◌, ◌+◌, ◌-◌, ◌*◌, ◌%◌, ◌++◌, ◌⊎◌, ℕ, zero, suc, Bool, true, false, ◌||◌, Option, List, [], ◌∷◌, length, min, take, drop, map, get_or, inl, inr, refl, sym, ap, ap₂, subst, ◌∙◌, arith}
-use Rattle.std.specs.Prelude.{◌==◌, ◌↔◌, All, Contains}
+use Rattle.std.specs.Prelude.{◌↔◌, Contains}
 use Rattle.std.specs.List.{list_any}
-use Rattle.std.proofs.lemmas.Bool.{cases_lt, true≢false}
-use Rattle.std.proofs.lemmas.List.{drop_all, drop-drop, get_or_default, get_or-drop, get_or-map, get_or-take, length-drop, length-map, length-take, length-take-le, take_min, take_rest}
+use Rattle.std.proofs.lemmas.Bool.{cases_lt}
+use Rattle.std.proofs.lemmas.List.{drop_all, drop-drop, get_or_default, get_or-drop, get_or-map, get_or-take, length-drop, length-take, length-take-le, take_min, take_rest}
 use Rattle.std.proofs.lemmas.List.Folds.{list_any_none}
 use Rattle.std.proofs.Math.Nat.{mul-mod_right}
 use Rattle.xc_base.specs.declared.names.Key.{Key}
@@ -14,7 +14,7 @@ use Rattle.dep_manager.specs.LeafPlaces.{Sources, has_place}
 use Rattle.dep_manager.specs.RenewedConfigs.{renewed_entries, renewed_entry}
 use Rattle.dep_manager.specs.ToldPlaces.{AreToldFrom, IsCountBefore}
 use Rattle.dep_manager.proofs.MarkSetLemmas.{has_marked, has_member, member_at, other_place}
-use Rattle.dep_manager.proofs.PairLemmas.{none_left, paired_all, paired_long, paired_more}
+use Rattle.dep_manager.proofs.PairLemmas.{none_left, paired_long, paired_more}
 use Rattle.dep_manager.proofs.ShownLemmas.{neither, untouched}
 
 -- ---- places in rising order
@@ -196,3 +196,8 @@ told_marked told marks places sources are rising marked = record {
       let here : 0 + i ≡ i = omega arith in
       ap (has_place places) here ∙ (has_marked marks places i (marked i) ∙ (ap (λ ms. get_or ms i false) are ∙ get_or-map (list_any (is_told told)) sources i [] false lt));
 }
+
+-- entries that were made by what a reader shows, and of the same clusters, are those that are made by what it read
+pub entries_read : (told now : Told) (es those made : List ClusterEntry) (sources others : Sources) → made ≡ renewed_entries told es sources → told ≡ now → es ≡ those → sources ≡ others → made ≡ renewed_entries now those others
+entries_read told now es those made sources others is same entries keys =
+    is ∙ ap₂ (λ told es. renewed_entries told es sources) same entries ∙ ap (renewed_entries now those) keys

@@ -1,11 +1,11 @@
 //! The entries of clusters once endpoints changed, block by block: a block that they don't touch is the same shared one as before.
-ghost use Rattle.std.specs.Prelude.{◌≡◌, ◌<◌, ◌≤◌, ◌+◌, ◌*◌, ◌^◌, ℕ, false, length, take, drop, IfOk};
+ghost use Rattle.std.specs.Prelude.{◌≡◌, ◌<◌, ◌≤◌, ◌+◌, ◌*◌, ◌^◌, ℕ, false, length, take, drop, IfOk, OnOk};
 ghost use Rattle.std.specs.List.{list_any};
 ghost use Rattle.dep_manager.specs.EndpointNews.{is_told};
 ghost use Rattle.dep_manager.specs.RenewedConfigs.{renewed_entries};
 ghost use Rattle.dep_manager.specs.ToldPlaces.{AreToldFrom, IsCountBefore};
 
-use crate::endpoint_news::News;
+use crate::endpoint_news::NewsReader;
 use crate::entry_renewal::renewed_entry;
 use block_list::{BLOCK_SIZE, BlockList};
 use std::alloc::Global;
@@ -54,15 +54,16 @@ fn behind(places: &[u32], count: usize) -> &[u32]
 /// of which any did are known. The first cluster stands at a place of which the places behind are told too.
 fn renewed_entries(
     alloc: Global,
-    news: &News,
+    news: &mut NewsReader<'_>,
     entries: &[Shared<ClusterEntry>],
     sources: &[List<Option<Key>>],
     first: usize,
     places: &[u32],
 ) -> Result<List<Shared<ClusterEntry>>, Memory>
     requires few { first + length sources.now < 2 ^ 63 }
-    requires told { AreToldFrom news.now places.now first sources.now }
-    ensures { IfOk result (λ list. list ≡ renewed_entries news.now entries.now sources.now) }
+    requires told { AreToldFrom news.old places.now first sources.now }
+    ensures list { IfOk result (λ list. list ≡ renewed_entries news.old entries.now sources.now) }
+    ensures same { OnOk result (news.new ≡ news.old) }
 {
     let mut list = List::from_vec(Vec::with_capacity(alloc, entries.len())?);
     let mut left = places;
@@ -78,7 +79,7 @@ fn renewed_entries(
 /// The entries of a block, once endpoints changed. Where none of its clusters is touched, it is the same shared block.
 fn renewed_block(
     alloc: Global,
-    news: &News,
+    news: &mut NewsReader<'_>,
     block: &Shared<List<Shared<ClusterEntry>>>,
     sources: &[List<Option<Key>>],
     first: usize,
@@ -86,9 +87,10 @@ fn renewed_block(
     is_touched: bool,
 ) -> Result<Shared<List<Shared<ClusterEntry>>>, Memory>
     requires few { first + length sources.now < 2 ^ 63 }
-    requires told { AreToldFrom news.now places.now first sources.now }
-    requires untouched { is_touched ≡ false → list_any (list_any (is_told news.now)) sources.now ≡ false }
-    ensures { IfOk result (λ new. new ≡ renewed_entries news.now block.now sources.now) }
+    requires told { AreToldFrom news.old places.now first sources.now }
+    requires untouched { is_touched ≡ false → list_any (list_any (is_told news.old)) sources.now ≡ false }
+    ensures block { IfOk result (λ new. new ≡ renewed_entries news.old block.now sources.now) }
+    ensures same { OnOk result (news.new ≡ news.old) }
 {
     if !is_touched && block.get().len() <= sources.len() {
         return block.share();
@@ -100,7 +102,7 @@ fn renewed_block(
 /// The entries of the block of this number, once endpoints changed.
 fn block_at(
     alloc: Global,
-    news: &News,
+    news: &mut NewsReader<'_>,
     clusters: &BlockList<Shared<ClusterEntry>>,
     sources: &[List<Option<Key>>],
     number: usize,
@@ -108,9 +110,10 @@ fn block_at(
     is_touched: bool,
 ) -> Result<Shared<List<Shared<ClusterEntry>>>, Memory>
     requires few { 32 * number + length sources.now < 2 ^ 63 }
-    requires told { AreToldFrom news.now places.now (32 * number) sources.now }
-    requires untouched { is_touched ≡ false → list_any (list_any (is_told news.now)) sources.now ≡ false }
-    ensures { IfOk result (λ block. block ≡ renewed_entries news.now (take 32 (drop (32 * number) clusters.now)) sources.now) }
+    requires told { AreToldFrom news.old places.now (32 * number) sources.now }
+    requires untouched { is_touched ≡ false → list_any (list_any (is_told news.old)) sources.now ≡ false }
+    ensures block { IfOk result (λ block. block ≡ renewed_entries news.old (take 32 (drop (32 * number) clusters.now)) sources.now) }
+    ensures same { OnOk result (news.new ≡ news.old) }
 {
     match clusters.block(number) {
         Some(block) => {
@@ -125,14 +128,15 @@ fn block_at(
 /// of which any did are known. Each of these places is passed once, and of the other clusters the blocks alone.
 pub fn renewed_blocks(
     alloc: Global,
-    news: &News,
+    news: &mut NewsReader<'_>,
     clusters: &BlockList<Shared<ClusterEntry>>,
     sources: &[List<Option<Key>>],
     places: &[u32],
 ) -> Result<BlockList<Shared<ClusterEntry>>, Memory>
     requires few { length clusters.now < 2 ^ 31 }
-    requires told { AreToldFrom news.now places.now 0 sources.now }
-    ensures { IfOk result (λ blocks. blocks ≡ renewed_entries news.now clusters.now sources.now) }
+    requires told { AreToldFrom news.old places.now 0 sources.now }
+    ensures blocks { IfOk result (λ blocks. blocks ≡ renewed_entries news.old clusters.now sources.now) }
+    ensures same { OnOk result (news.new ≡ news.old) }
 {
     let mut left = places;
     let mut blocks = BlockList::new(alloc);

@@ -5,7 +5,7 @@ ghost use Rattle.dep_manager.specs.EndpointNews.{is_told};
 ghost use Rattle.dep_manager.specs.RenewedConfigs.{renewed_config, renewed_entries, renewed_marks};
 
 use crate::block_renewal::renewed_blocks;
-use crate::endpoint_news::News;
+use crate::endpoint_news::{News, NewsReader};
 use crate::leaf_sources::LeafSources;
 use crate::mark_sets::MarkSet;
 use place_marks::Marks;
@@ -29,8 +29,10 @@ fn told_marks(alloc: Global, news: &News, sources: &LeafSources) -> Result<MarkS
     ensures { IfOk result (λ told. told ≡ map (list_any (is_told news.now)) sources.now) }
 {
     let mut told = MarkSet::none(alloc, sources.len());
-    for key in news.keys() {
-        let more = told.with(sources.places_of(key))?;
+    let mut near = 0;
+    for place in 0..news.len() {
+        let places = sources.places_of(news.key(place), &mut near);
+        let more = told.with(places)?;
         told = more;
     }
     Ok(told)
@@ -48,7 +50,14 @@ fn renewed_clusters(
     ensures { IfOk result (λ new. new ≡ renewed_entries news.now clusters.now sources.now) }
 {
     let before = clusters.as_blocks();
-    let blocks = renewed_blocks(alloc, news, before, sources.as_slice(), told.places())?;
+    let mut reader = NewsReader::of(news);
+    let blocks = renewed_blocks(
+        alloc,
+        &mut reader,
+        before,
+        sources.as_slice(),
+        told.places(),
+    )?;
     Ok(clusters.renewed(blocks))
 }
 

@@ -3,6 +3,7 @@ ghost use Rattle.std.specs.Prelude.{◌≡◌, ◌↔◌, ◌≤◌, ◌+◌, Li
 ghost use Rattle.std.specs.Option.{option_or};
 ghost use Rattle.xc_base.specs.declared.names.Kind.TheVariants.{Listener as ListenerKind};
 ghost use Rattle.std.specs.List.Sorted.{IsStrictlySortedBy};
+ghost use Rattle.xc_keys.specs.Keys.{key_cmp};
 ghost use Rattle.xds_config.specs.Configs.{IsLawfulConfig, IsLawfulFront};
 ghost use Rattle.xds_bootstrap.specs.declared.bootstrap.AuthorityEntry.{AuthorityEntry as AuthorityValue};
 ghost use Rattle.xds_name.specs.declared.target.Target.{Target as TargetValue};
@@ -63,7 +64,9 @@ pub struct Deps {
 
 impl Model for Deps {
     ghost use Rattle.std.specs.Prelude.{◌≡◌, IfSome};
+    ghost use Rattle.std.specs.List.Sorted.{IsStrictlySortedBy};
     ghost use Rattle.xc_base.specs.declared.names.Kind.TheVariants.{Listener as ListenerKind};
+    ghost use Rattle.xc_keys.specs.Keys.{key_cmp};
     ghost use Rattle.dep_manager.specs.KeptAssemblies.{Managed};
     ghost use Rattle.dep_manager.specs.ShownEntries.{StandAsShown};
 
@@ -71,7 +74,7 @@ impl Model for Deps {
 
     ghost view = { λ d. record { target = d.target; reached = d.reached; last = d.last; shown = d.shown } };
 
-    ghost invariant = { λ d. (d.target.key.kind ≡ ListenerKind) × IfSome d.last (λ kept. StandAsShown kept.others d.shown kept.config) };
+    ghost invariant = { λ d. (d.target.key.kind ≡ ListenerKind) × IfSome d.last (λ kept. StandAsShown kept.others d.shown kept.config) × IsStrictlySortedBy key_cmp d.reached };
 }
 
 /// What an update comes to that reached these keys, which may be known to be those of the update before, and made this. Where a
@@ -245,6 +248,7 @@ impl Deps {
         requires watched { IsKept cache.old self.old.reached (reach (resources self.old.target boot.now.authorities cache.old) references.now) }
         requires changed { HaveChanged boot.now.authorities self.old cache.old changed.now }
         ensures reached { IfOk result (λ o. o.reached ≡ reach (resources self.old.target boot.now.authorities cache.old) references.now) }
+        ensures rising { IfOk result (λ o. IsStrictlySortedBy key_cmp o.reached) }
         ensures missing { IfOk result (λ o. o.missing ≡ missing (fate_of cache.old) o.reached) }
         ensures config { IfOk result (λ o. o.config ≡ config_where o.missing (resources self.old.target boot.now.authorities cache.old) references.now) }
         ensures whole { IfOk result (λ o. IsSome o.config ↔ IsNone o.missing) }

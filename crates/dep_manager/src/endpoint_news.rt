@@ -1,5 +1,5 @@
 //! What is told of keys that changed.
-ghost use Rattle.std.specs.Prelude.{◌≡◌, ◌↔◌, ◌≤◌, ◌+◌, [], None, Some, IfOk, IsTrue, OnOk, filter, length, option_map, if◌then◌else◌};
+ghost use Rattle.std.specs.Prelude.{◌≡◌, ◌↔◌, ◌<◌, ◌≤◌, ◌+◌, [], None, Some, IfOk, IsTrue, OnOk, filter, length, option_map, slice_get, if◌then◌else◌};
 ghost use Rattle.std.specs.List.Sorted.{IsStrictlySortedBy};
 ghost use Rattle.std.specs.Map.{keys_of};
 ghost use Rattle.xc_base.specs.declared.names.Key.{Key as KeyValue};
@@ -11,8 +11,8 @@ ghost use Rattle.config_assembly.specs.Watching.{has_key};
 ghost use Rattle.config_assembly.specs.WholeConfigs.{endpoints_of};
 ghost use Rattle.dep_manager.specs.EndpointNews.{AreLawfulNews, are_endpoints, is_awaited, state_in};
 
+use key_table::KeyTable;
 use std::alloc::Global;
-use std::collections::btree_map::Keys;
 use std::collections::{BTreeMap, BTreeSet};
 use std::marker::Model;
 use std::sync::ledger::Ledger;
@@ -20,13 +20,13 @@ use xc_base::{Key, Kind, Memory, Reason, Shared, Steps};
 use xds_cache::{Cache, Fate};
 use xds_config::{EndpointValue, Value};
 
-/// The endpoints of each key that changed, or why there are none, by its key.
+/// What is gathered of keys that changed, key by key.
 #[derive(Drop)]
-pub struct News {
+struct Gathered {
     states: BTreeMap<Key, Result<Shared<EndpointValue>, Reason>>,
 }
 
-impl Model for News {
+impl Model for Gathered {
     ghost use Rattle.dep_manager.specs.EndpointNews.{Told};
 
     ghost Value = { Told };
@@ -34,21 +34,14 @@ impl Model for News {
     ghost view = { λ n. n.states.entries };
 }
 
-impl News {
+impl Gathered {
     /// Nothing is told yet.
-    fn new(alloc: Global) -> News
+    fn new(alloc: Global) -> Gathered
         ensures { result ≡ [] }
     {
-        News {
+        Gathered {
             states: BTreeMap::new(alloc),
         }
-    }
-
-    /// Whether nothing is told.
-    pub fn is_empty(&self) -> bool
-        ensures { IsTrue result ↔ (self.now ≡ []) }
-    {
-        self.states.is_empty()
     }
 
     /// Tells the endpoints of a key.
@@ -62,18 +55,84 @@ impl News {
         Ok(())
     }
 
-    /// What is told of a key.
-    pub fn get(&self, key: &Key) -> Option<&Result<Shared<EndpointValue>, Reason>>
-        ensures { option_map (λ s. s.now) result ≡ state_in self.now key.now }
+    /// All that was told.
+    fn into_news(self, alloc: Global) -> Result<News, Memory>
+        ensures { IfOk result (λ news. news ≡ self) }
     {
-        self.states.get(key)
+        let states = KeyTable::of(alloc, self.states)?;
+        Ok(News { states })
+    }
+}
+
+/// The endpoints of each key that changed, or why there are none, by its key.
+#[derive(Drop)]
+pub struct News {
+    states: KeyTable<Result<Shared<EndpointValue>, Reason>>,
+}
+
+impl Model for News {
+    ghost use Rattle.dep_manager.specs.EndpointNews.{Told};
+
+    ghost Value = { Told };
+
+    ghost view = { λ n. n.states };
+}
+
+impl News {
+    /// Of how many keys something is told.
+    pub fn len(&self) -> usize
+        ensures { result ≡ length self.now }
+    {
+        self.states.len()
     }
 
-    /// The keys of which something is told.
-    pub fn keys(&self) -> Keys<'_, Key, Result<Shared<EndpointValue>, Reason>>
-        ensures { result ≡ keys_of self.now }
+    /// Whether nothing is told.
+    pub fn is_empty(&self) -> bool
+        ensures { IsTrue result ↔ (self.now ≡ []) }
     {
-        self.states.keys()
+        self.states.is_empty()
+    }
+
+    /// The key at a place, from 0, of those of which something is told, in the order of keys.
+    pub fn key(&self, place: usize) -> &Key
+        requires { place < length self.now }
+        ensures { slice_get (keys_of self.now) place ≡ Some result.now }
+    {
+        self.states.key(place)
+    }
+}
+
+/// Reads what is told of keys that are asked for in nearly the order of keys: the place behind the one that was found last is
+/// tried first.
+#[derive(Drop)]
+pub struct NewsReader<'a> {
+    news: &'a News,
+    near: usize,
+}
+
+impl<'a> Model for NewsReader<'a> {
+    ghost use Rattle.dep_manager.specs.EndpointNews.{Told};
+
+    ghost Value = { Told };
+
+    ghost view = { λ r. r.news.now };
+}
+
+impl<'a> NewsReader<'a> {
+    /// Reads these from the first one on.
+    pub fn of(news: &'a News) -> NewsReader<'a>
+        ensures { result ≡ news.now }
+    {
+        NewsReader { news, near: 0 }
+    }
+
+    /// What is told of a key.
+    pub fn get(&mut self, key: &Key) -> Option<&'a Result<Shared<EndpointValue>, Reason>>
+        ensures state { option_map (λ s. s.now) result ≡ state_in self.old key.now }
+        ensures same { self.new ≡ self.old }
+    {
+        let news = self.news;
+        news.states.get(key, &mut self.near)
     }
 }
 
@@ -142,22 +201,22 @@ pub fn awaited_of<L: Ledger>(
 
 /// Looks at a key that changed.
 fn look<L: Ledger>(
-    news: &mut News,
+    gathered: &mut Gathered,
     awaited: &mut BTreeSet<Key>,
     cache: &Cache,
     key: &Key,
     steps: &mut Steps<L>,
 ) -> Result<(), Memory>
-    ensures news { OnOk result ((other : KeyValue) → state_in news.new other ≡ (if is_key key.now other then Some (endpoints_of (fate_of cache.now key.now)) else state_in news.old other)) }
+    ensures news { OnOk result ((other : KeyValue) → state_in gathered.new other ≡ (if is_key key.now other then Some (endpoints_of (fate_of cache.now key.now)) else state_in gathered.old other)) }
     ensures awaited { OnOk result ((other : KeyValue) → has_key awaited.new.keys other ≡ (if is_key key.now other then is_awaited cache.now key.now else has_key awaited.old.keys other)) }
     ensures rising { OnOk result (IsStrictlySortedBy key_cmp awaited.new.keys) }
-    ensures lawful { OnOk result (AreLawfulNews news.old → AreLawfulNews news.new) }
+    ensures lawful { OnOk result (AreLawfulNews gathered.old → AreLawfulNews gathered.new) }
     ensures one_step { steps.new ≡ steps.old + 1 }
 {
     let fate = cache.get(key, steps);
     set_awaited(awaited, key, is_awaited(cache, key, fate))?;
     let state = endpoints_of(fate)?;
-    news.put(key, state)
+    gathered.put(key, state)
 }
 
 /// What is told of these keys, of which those that are watched and awaited are put among the others that are. Each counts one step.
@@ -175,9 +234,10 @@ pub fn news_of<L: Ledger>(
     ensures cost { steps.new ≤ steps.old + length changed.now }
     ensures rises { steps.old ≤ steps.new }
 {
-    let mut news = News::new(alloc);
+    let mut gathered = Gathered::new(alloc);
     for key in changed {
-        look(&mut news, awaited, cache, key, steps)?;
+        look(&mut gathered, awaited, cache, key, steps)?;
     }
+    let news = gathered.into_news(alloc)?;
     Ok(news)
 }

@@ -1,10 +1,10 @@
 //! The entry of a cluster once endpoints changed: what they don't touch is the same shared value as before.
-ghost use Rattle.std.specs.Prelude.{◌≡◌, IfOk};
+ghost use Rattle.std.specs.Prelude.{◌≡◌, IfOk, OnOk};
 ghost use Rattle.std.specs.List.{list_any};
 ghost use Rattle.dep_manager.specs.EndpointNews.{is_told};
 ghost use Rattle.dep_manager.specs.RenewedConfigs.{renewed_entry, renewed_leaf, renewed_leaves, renewed_state};
 
-use crate::endpoint_news::News;
+use crate::endpoint_news::NewsReader;
 use std::alloc::Global;
 use xc_base::{Key, List, Memory, Reason, Shared};
 use xds_config::{ClusterEntry, EndpointValue, Leaf, Leaves};
@@ -31,8 +31,13 @@ fn leaf_with(leaf: &Leaf, state: &Result<Shared<EndpointValue>, Reason>) -> Resu
 }
 
 /// A leaf that has its endpoints from this key, once some changed.
-fn renewed_leaf(news: &News, leaf: &Leaf, source: &Option<Key>) -> Result<Leaf, Memory>
-    ensures { IfOk result (λ new. new ≡ renewed_leaf news.now leaf.now source.now) }
+fn renewed_leaf(
+    news: &mut NewsReader<'_>,
+    leaf: &Leaf,
+    source: &Option<Key>,
+) -> Result<Leaf, Memory>
+    ensures leaf { IfOk result (λ new. new ≡ renewed_leaf news.old leaf.now source.now) }
+    ensures same { OnOk result (news.new ≡ news.old) }
 {
     let Some(key) = source else {
         return leaf.clone();
@@ -46,11 +51,12 @@ fn renewed_leaf(news: &News, leaf: &Leaf, source: &Option<Key>) -> Result<Leaf, 
 /// Leaves that have their endpoints from these keys, once some changed.
 fn renewed_leaves(
     alloc: Global,
-    news: &News,
+    news: &mut NewsReader<'_>,
     leaves: &[Leaf],
     sources: &[Option<Key>],
 ) -> Result<List<Leaf>, Memory>
-    ensures { IfOk result (λ list. list ≡ renewed_leaves news.now leaves.now sources.now) }
+    ensures list { IfOk result (λ list. list ≡ renewed_leaves news.old leaves.now sources.now) }
+    ensures same { OnOk result (news.new ≡ news.old) }
 {
     let mut list = List::from_vec(Vec::with_capacity(alloc, leaves.len())?);
     let mut left = sources;
@@ -67,11 +73,12 @@ fn renewed_leaves(
 /// The leaves of a cluster, which have their endpoints from these keys, once some changed.
 fn renewed_state(
     alloc: Global,
-    news: &News,
+    news: &mut NewsReader<'_>,
     state: &Result<Shared<Leaves>, Reason>,
     sources: &[Option<Key>],
 ) -> Result<Result<Shared<Leaves>, Reason>, Memory>
-    ensures { IfOk result (λ new. new ≡ renewed_state news.now state.now sources.now) }
+    ensures state { IfOk result (λ new. new ≡ renewed_state news.old state.now sources.now) }
+    ensures same { OnOk result (news.new ≡ news.old) }
 {
     match state {
         Ok(leaves) => {
@@ -87,13 +94,14 @@ fn renewed_state(
 /// these keys did.
 pub fn renewed_entry(
     alloc: Global,
-    news: &News,
+    news: &mut NewsReader<'_>,
     entry: &Shared<ClusterEntry>,
     sources: &[Option<Key>],
     told: bool,
 ) -> Result<Shared<ClusterEntry>, Memory>
-    requires { told ≡ list_any (is_told news.now) sources.now }
-    ensures { IfOk result (λ new. new ≡ renewed_entry news.now entry.now sources.now) }
+    requires { told ≡ list_any (is_told news.old) sources.now }
+    ensures entry { IfOk result (λ new. new ≡ renewed_entry news.old entry.now sources.now) }
+    ensures same { OnOk result (news.new ≡ news.old) }
 {
     if !told {
         return entry.share();

@@ -10,6 +10,7 @@ ghost use Rattle.dep_manager.specs.LeafPlaces.{ArePlacesOf, has_leaf, has_place,
 use block_list::BlockList;
 use config_assembly::Sight;
 use config_assembly::reach::endpoint_name;
+use key_table::KeyTable;
 use std::alloc::Global;
 use std::collections::BTreeMap;
 use std::marker::Model;
@@ -55,18 +56,16 @@ fn list_cluster(
 }
 
 /// For each key of a leaf, the places of the clusters that have a leaf with it.
-fn places_of(
-    alloc: Global,
-    sources: &[List<Option<Key>>],
-) -> Result<BTreeMap<Key, List<u32>>, Memory>
+fn places_of(alloc: Global, sources: &[List<Option<Key>>]) -> Result<KeyTable<List<u32>>, Memory>
     requires { length sources.now ≤ 2 ^ 32 }
-    ensures { IfOk result (λ places. ArePlacesOf sources.now places.entries) }
+    ensures { IfOk result (ArePlacesOf sources.now) }
 {
     let mut places = BTreeMap::new(alloc);
     for place in 0..sources.len() {
         list_cluster(alloc, &mut places, sources[place].as_slice(), place as u32)?;
     }
-    Ok(places)
+    let table = KeyTable::of(alloc, places)?;
+    Ok(table)
 }
 
 /// The Endpoint keys of leaves, cluster by cluster, and where each stands. Contracts see the keys.
@@ -75,7 +74,7 @@ pub struct LeafSources {
     /// For each cluster, the Endpoint key of each leaf, where the leaf's cluster is known.
     keys: List<List<Option<Key>>>,
     /// For each of these keys, the places of the clusters that have a leaf with it, from 0.
-    places: BTreeMap<Key, List<u32>>,
+    places: KeyTable<List<u32>>,
 }
 
 impl Model for LeafSources {
@@ -86,7 +85,7 @@ impl Model for LeafSources {
 
     ghost view = { λ s. s.keys };
 
-    ghost invariant = { λ s. ArePlacesOf s.keys s.places.entries × (length s.keys ≤ 2 ^ 32) };
+    ghost invariant = { λ s. ArePlacesOf s.keys s.places × (length s.keys ≤ 2 ^ 32) };
 }
 
 impl LeafSources {
@@ -114,12 +113,13 @@ impl LeafSources {
         self.keys.as_slice()
     }
 
-    /// The places of the clusters that have a leaf with this key.
-    pub fn places_of(&self, key: &Key) -> &[u32]
+    /// The places of the clusters that have a leaf with this key. Where keys are asked for in nearly their order, `near` tells
+    /// where the next one is likely to stand.
+    pub fn places_of(&self, key: &Key, near: &mut usize) -> &[u32]
         ensures listed { (at : ℕ) → has_place result.now at ≡ has_leaf self.now key.now at }
         ensures within { All (λ place. place < length self.now) result.now }
     {
-        match self.places.get(key) {
+        match self.places.get(key, near) {
             Some(places) => places.as_slice(),
             None => &[],
         }

@@ -5,6 +5,7 @@ use Rattle.dep_manager.proofs.block_renewal.renewed_blocks.Given as goal
 
 abbrev pub invariant-loop-number : goal.invariant-loop-number
 invariant-loop-number l = record {
-  blocks : l.blocks ≡ renewed_entries l.news (take (32 * l.number) l.clusters) (take (32 * l.number) l.sources);
-  told : AreToldFrom l.news l.left (32 * l.number) (drop (32 * l.number) l.sources);
+  blocks : l.blocks ≡ renewed_entries l.fn.news (take (32 * l.number) l.clusters) (take (32 * l.number) l.sources);
+  told : AreToldFrom l.fn.news l.left (32 * l.number) (drop (32 * l.number) l.sources);
+  same : l.news ≡ l.fn.news;
 }

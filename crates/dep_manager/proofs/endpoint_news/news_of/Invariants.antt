@@ -11,9 +11,9 @@ use Rattle.dep_manager.proofs.endpoint_news.news_of.Given as goal
 
 abbrev pub invariant-loop-key : goal.invariant-loop-key
 invariant-loop-key g l = record {
-  told : (key : Key) → state_in l.news key ≡ (if has_key (take l.key-index l.changed) key then Some (endpoints_of (fate_of l.cache key)) else None);
+  told : (key : Key) → state_in l.gathered key ≡ (if has_key (take l.key-index l.changed) key then Some (endpoints_of (fate_of l.cache key)) else None);
   waits : (key : Key) → has_key l.awaited.keys key ≡ (if has_key (take l.key-index l.changed) key then is_awaited l.cache key else has_key l.fn.awaited.keys key);
   rising : IsStrictlySortedBy key_cmp l.fn.awaited.keys → IsStrictlySortedBy key_cmp l.awaited.keys;
-  lawful : AreLawfulNews l.news;
+  lawful : AreLawfulNews l.gathered;
   counted : l.steps ≡ l.fn.steps + l.key-index;
 }

@@ -1,11 +1,14 @@
 use Rattle.std.proofs.Common.{◌≡◌, false, sym, ap, ◌∙◌, subst}
 use Rattle.std.specs.Prelude.{IsSomeAnd}
+use Rattle.std.specs.List.Sorted.{IsStrictlySortedBy}
+use Rattle.xc_keys.specs.Keys.{key_cmp}
 use Rattle.config_assembly.specs.Reach.{reach}
 use Rattle.config_assembly.specs.ReachedResources.{Resources, resources}
 use Rattle.config_assembly.specs.Watching.{IsKept, IsWatching}
 use Rattle.dep_manager.specs.KeptAssemblies.{IsAssembledOf, kept_with}
 use Rattle.dep_manager.specs.UpdateOutcomes.{IsOutcomeBy, outcome_of}
 use Rattle.dep_manager.proofs.KeptLemmas.{kept_by, outcome_by, right_by}
+use Rattle.dep_manager.proofs.SortedKeys.{reach_rises}
 use Rattle.dep_manager.proofs.deps.Deps.begin.Goals as goal
 
 pub watch_reached-requires : goal.watch_reached-requires
@@ -39,3 +42,9 @@ returns-clause-kept g c =
     (subst (λ d. IsSomeAnd d.last (λ kept. kept ≡ kept_with c.in_ok-made.made.kept kept.others)) (sym c.self-2.view_is) c.in_ok-outcome.ensures.kept)
     (kept_by c.args.boot.now.authorities c.args.cache.now c.watch_reached.new.cache c.args.self.now.target c.args.references.now c.in_ok-made.made.reached c.in_ok-made.made.kept is (c.in_ok-made.ensures.references ∙ c.as_slice.ensures) c.in_ok-made.ensures.lawful
     (subst (IsWatching c.args.cache.now c.watch_reached.new.cache) c.as_slice-3.ensures c.in_ok-watch_reached.ensures))
+
+pub invariant_of-self : goal.invariant_of-self
+invariant_of-self g c =
+    let r : Resources = resources c.args.self.now.target c.args.boot.now.authorities c.args.cache.now in
+    let is : IsAssembledOf r c.in_ok-made.made.reached c.in_ok-made.made.kept = subst (λ d. IsAssembledOf (resources d.target c.args.boot.now.authorities c.args.cache.now) c.in_ok-made.made.reached c.in_ok-made.made.kept) c.self.view_is c.in_ok-made.ensures.assembled in
+    (c.self-2.invariant.0, c.self-2.invariant.1, subst (IsStrictlySortedBy key_cmp) (sym (c.in_ok-reached.ensures ∙ is.reached_are)) (reach_rises r c.in_ok-made.made.kept.references))

@@ -1,6 +1,8 @@
 use Rattle.std.proofs.Common.{◌≡◌, rules, sym, subst}
 use Rattle.std.specs.Option.{option_or}
+use Rattle.std.specs.List.Sorted.{IsStrictlySortedBy}
 use Rattle.xc_base.specs.declared.names.Kind.{Kind}
+use Rattle.xc_keys.specs.Keys.{key_cmp}
 use Rattle.dep_manager.specs.ShownEntries.{StandAsShown}
 use Rattle.dep_manager.proofs.ShownLemmas.{stand_kept}
 use Rattle.dep_manager.proofs.deps.Deps.keep.Goals as goal
@@ -13,11 +15,14 @@ invariant_of-self c =
     elim c.match-outcome.branch [
       | in-Some+in_ok-share+in-Some-1 w ↦ (let shown : c.match-outcome.self-inside.shown ≡ option_or c.in_ok-outcome.outcome.config c.args.self.now.shown = search rules in
           let kind : c.match-outcome.self-inside.target.key.kind ≡ Kind.Listener = search rules in
-          (kind, subst (λ was. StandAsShown c.outcome_of.new.kept.others was c.outcome_of.new.kept.config) (sym shown) stand))
+          let keys : IsStrictlySortedBy key_cmp c.match-outcome.self-inside.reached = search rules in
+          (kind, subst (λ was. StandAsShown c.outcome_of.new.kept.others was c.outcome_of.new.kept.config) (sym shown) stand, keys))
       | in-Some+in_ok-share+in-None-1 w ↦ (let shown : c.match-outcome.self-inside.shown ≡ option_or c.in_ok-outcome.outcome.config c.args.self.now.shown = search rules in
           let kind : c.match-outcome.self-inside.target.key.kind ≡ Kind.Listener = search rules in
-          (kind, subst (λ was. StandAsShown c.outcome_of.new.kept.others was c.outcome_of.new.kept.config) (sym shown) stand))
+          let keys : IsStrictlySortedBy key_cmp c.match-outcome.self-inside.reached = search rules in
+          (kind, subst (λ was. StandAsShown c.outcome_of.new.kept.others was c.outcome_of.new.kept.config) (sym shown) stand, keys))
       | in_default w ↦ (let shown : c.match-outcome.self-inside.shown ≡ option_or c.in_ok-outcome.outcome.config c.args.self.now.shown = search rules in
           let kind : c.match-outcome.self-inside.target.key.kind ≡ Kind.Listener = search rules in
-          (kind, subst (λ was. StandAsShown c.outcome_of.new.kept.others was c.outcome_of.new.kept.config) (sym shown) stand))
+          let keys : IsStrictlySortedBy key_cmp c.match-outcome.self-inside.reached = search rules in
+          (kind, subst (λ was. StandAsShown c.outcome_of.new.kept.others was c.outcome_of.new.kept.config) (sym shown) stand, keys))
     ]

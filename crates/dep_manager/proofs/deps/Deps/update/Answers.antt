@@ -1,15 +1,18 @@
 use Rattle.std.proofs.Common.{◌≡◌, true, length, sym, ap, ◌∙◌, subst}
 use Rattle.std.specs.Prelude.{IfSome}
 use Rattle.std.specs.Option.{option_or}
+use Rattle.std.specs.List.Sorted.{IsStrictlySortedBy}
 use Rattle.std.proofs.lemmas.Bool.{true≢false}
+use Rattle.xc_keys.specs.Keys.{key_cmp}
 use Rattle.config_assembly.specs.Reach.{reach}
-use Rattle.config_assembly.specs.ReachedResources.{resources}
+use Rattle.config_assembly.specs.ReachedResources.{Resources, resources}
 use Rattle.config_assembly.specs.Watching.{IsKept}
 use Rattle.dep_manager.specs.EndpointNews.{are_endpoints}
 use Rattle.dep_manager.specs.ShownEntries.{StandAsShown}
 use Rattle.dep_manager.specs.UpdateOutcomes.{IsOutcomeBy}
 use Rattle.dep_manager.proofs.KeptLemmas.{none_counted}
 use Rattle.dep_manager.proofs.RootLemmas.{kept_at, none_found}
+use Rattle.dep_manager.proofs.SortedKeys.{reach_rises}
 use Rattle.dep_manager.proofs.deps.Deps.update.Goals as goal
 
 pub begin-requires : goal.begin-requires
@@ -142,3 +145,13 @@ returns-in_ok-outcome-in-Some-clause-follows g c last kept same endpoints = c.in
 
 pub returns-in_ok-outcome-in-None-clause-follows : goal.returns-in_ok-outcome-in-None-clause-follows
 returns-in_ok-outcome-in-None-clause-follows g c last kept same endpoints = absurd (none_found c.args.boot.now.authorities c.args.self.now c.args.cache.now c.as_slice.result.now c.args.changed.now c.args.references.now c.in_ok-found.found last c.as_slice.ensures c.in_ok-found.ensures.some c.in-None.is c.requires.changed kept same endpoints)
+
+pub returns-in_ok-outcome-in-Some-clause-rising : goal.returns-in_ok-outcome-in-Some-clause-rising
+returns-in_ok-outcome-in-Some-clause-rising g c =
+    let r : Resources = resources c.args.self.now.target c.args.boot.now.authorities c.args.cache.now in
+    subst (IsStrictlySortedBy key_cmp) (sym (returns-in_ok-outcome-in-Some-clause-reached g c)) (reach_rises r c.args.references.now)
+
+pub returns-in_ok-outcome-in-None-clause-rising : goal.returns-in_ok-outcome-in-None-clause-rising
+returns-in_ok-outcome-in-None-clause-rising g c =
+    let r : Resources = resources c.args.self.now.target c.args.boot.now.authorities c.args.cache.now in
+    subst (IsStrictlySortedBy key_cmp) (sym (returns-in_ok-outcome-in-None-clause-reached g c)) (reach_rises r c.args.references.now)

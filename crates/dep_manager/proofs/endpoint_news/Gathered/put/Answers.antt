@@ -3,7 +3,7 @@ use Rattle.xc_keys.specs.Keys.{is_key}
 use Rattle.xc_keys.proofs.KeyLemmas.{changed_alike}
 use Rattle.dep_manager.specs.EndpointNews.{AreLawfulNews, state_in}
 use Rattle.dep_manager.proofs.NewsLemmas.{lawful_put}
-use Rattle.dep_manager.proofs.endpoint_news.News.put.Goals as goal
+use Rattle.dep_manager.proofs.endpoint_news.Gathered.put.Goals as goal
 
 pub returns-clause-state : goal.returns-clause-state
 returns-clause-state c other =
