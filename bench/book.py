@@ -3,11 +3,11 @@
 A step costs what a session with twice as many of its lines takes longer, over the lines that it has more: so neither the
 start of the program nor the first responses are counted. What is read is counted; the report isn't, since the output takes
 no byte, and the whole session is played before its report is begun. Told are the user time of a step and by how much it raises
-the peak memory, of the least of N runs each. Below stand how much longer an Endpoint response of all clusters takes with 64
-times the clusters, and the memory that a snapshot takes for each cluster that stayed. XDS_YARDSTICK names another program with
-the same commands: then both play by turns, and the ratio of their times is told too. With --system the time that the system
-works for a program is counted, too: the two together are told exactly, where user time alone may be told by ticks. With --most
-the status is 1 where one of these ratios is above it.
+the peak memory, of the least of N runs each; in each run all steps are played by turns. Below stand how much longer an Endpoint
+response of all clusters takes with 64 times the clusters, and the memory that a snapshot takes for each cluster that stayed.
+XDS_YARDSTICK names another program with the same commands: then both play by turns, and the ratio of their times is told too.
+With --system the time that the system works for a program is counted, too: the two together are told exactly, where user time
+alone may be told by ticks. With --most the status is 1 where one of these ratios is above it.
 """
 
 import argparse
@@ -41,6 +41,7 @@ class Step:
     def __init__(self, name, programs, room, with_system):
         self.what, session, self.count = STEPS[name]
         self.with_system = with_system
+        room.mkdir()
         self.inputs = [room / "once", room / "twice"]
         self.best = {program: [(float("inf"), float("inf"))] * 2 for program in programs}
         for times, file in enumerate(self.inputs, 1):
@@ -62,13 +63,15 @@ class Step:
         return [(large - small) / self.count for small, large in zip(once, twice)]
 
 
-def measured(name, programs, given):
-    """What a step costs each program."""
+def measured(names, programs, given):
+    """What each step costs each program. All steps are played in each run, so that a moment in which the machine is slow
+    falls on all of them."""
     with tempfile.TemporaryDirectory() as room:
-        step = Step(name, programs, pathlib.Path(room), given.system)
+        steps = {name: Step(name, programs, pathlib.Path(room) / name, given.system) for name in names}
         for _ in range(given.runs):
-            step.measure()
-    return [step.cost(program) for program in programs]
+            for step in steps.values():
+                step.measure()
+    return {name: [step.cost(program) for program in programs] for name, step in steps.items()}
 
 
 def row(name, costs):
@@ -110,11 +113,11 @@ def words():
 
 
 def main():
-    given, programs, costs = words(), timing.programs(), {}
+    given, programs = words(), timing.programs()
+    costs = measured(given.only, programs, given)
     print(head(len(programs)))
     for name in given.only:
-        costs[name] = measured(name, programs, given)
-        print(row(name, costs[name]), flush=True)
+        print(row(name, costs[name]))
     for place, which in enumerate(["xds_replay", "the other program"][:len(programs)]):
         for sentence in growth(costs, place):
             print(f"{which}: {sentence}")

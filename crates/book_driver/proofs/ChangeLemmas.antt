@@ -1,5 +1,5 @@
 -- Of which watched keys something else may be known after an event.
-use Rattle.std.proofs.Common.{◌≡◌, false, Option, Some, None, List, refl, ap, ◌∙◌, is_some, option_map}
+use Rattle.std.proofs.Common.{◌≡◌, false, Option, Some, None, List, [], refl, ap, ◌∙◌, is_some, option_map}
 use Rattle.std.specs.Prelude.{if◌then◌else◌, IsSome}
 use Rattle.xc_base.specs.declared.names.Key.{Key}
 use Rattle.xds_cache.specs.declared.fate.Known.{Known}
@@ -7,8 +7,8 @@ use Rattle.xds_cache.specs.KeptFates.{Watched as Rows, known_of}
 use Rattle.config_assembly.specs.Watching.{has_key}
 use Rattle.dep_manager.specs.KeptAssemblies.{AreChanges}
 use Rattle.driver_step.specs.book_fates.declared.answered.Answered.{Answered}
-use Rattle.driver_step.specs.book_fates.Delivered.{HasTouched, delivered_in, told_as}
-use Rattle.driver_step.specs.book_fates.FateSteps.{Stepped, out_among, told_step}
+use Rattle.driver_step.specs.book_fates.Delivered.{delivered_in, told_as}
+use Rattle.driver_step.specs.book_fates.FateSteps.{AreListed, Stepped, out_among, told_step}
 
 -- ---- by what an event makes of each key
 
@@ -40,6 +40,9 @@ out_changes old new keys stepped = stepped_changes (out_among keys) old new keys
 
 -- ---- by what comes
 
--- a response makes nothing else of others than what it touches
-pub told_changes : (a : Answered) (old new : Rows) (touched : List Key) → Stepped old new (told_step (told_as (delivered_in a))) → HasTouched (Some a) old touched → AreChanges old new touched
-told_changes a old new touched stepped has = stepped_changes (told_step (told_as (delivered_in a))) old new touched stepped has
+-- of what a response doesn't list nothing else is known
+pub told_changes : (a : Answered) (old new : Rows) (changed : List Key) → Stepped old new (told_step (told_as (delivered_in a))) → AreListed old new [] changed → AreChanges old new changed
+told_changes a old new changed stepped listed = record {
+  watched = λ key. ap (λ o. is_some o) (stepped key) ∙ same_some (told_step (told_as (delivered_in a)) key) (known_of old key);
+  others = λ key lone. (listed key lone).1;
+}

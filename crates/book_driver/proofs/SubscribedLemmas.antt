@@ -69,6 +69,7 @@ watched_still s past line event reply least w is settled none at = record {
   fates_are = reports_leave_fates s past line event reply least w.fates is settled none at.fates_are;
   keys_are = at.keys_are;
   told_are = at.told_are;
+  rising = at.rising;
   right = at.right;
 }
 
@@ -114,6 +115,7 @@ callers_leave_subscribed s past actor line event reply v at = record {
     fates_are = callers_leave s past actor line event reply v.watcher.fates at.watcher_is.fates_are;
     keys_are = at.watcher_is.keys_are;
     told_are = at.watcher_is.told_are;
+    rising = at.watcher_is.rising;
     right = at.watcher_is.right;
   };
   references_are = at.references_are;

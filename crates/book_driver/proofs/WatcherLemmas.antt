@@ -2,6 +2,7 @@
 use Rattle.std.proofs.Common.{◌≡◌, ℕ, List, [], ◌∷◌, map, Option, Some, None, refl, sym, ap, ap₂, ◌∙◌, subst}
 use Rattle.std.specs.Prelude.{◌↔◌, ◌||◌, Bool, true, false, IfSome, IsNone, IsSome, is_some, if◌then◌else◌}
 use Rattle.std.specs.List.{find}
+use Rattle.std.specs.List.Sorted.{IsStrictlySortedBy}
 use Rattle.std.specs.Option.{option_or}
 use Rattle.xc_base.specs.declared.names.Home.{Home}
 use Rattle.xc_base.specs.declared.names.Key.{Key}
@@ -28,7 +29,7 @@ use Rattle.driver_step.specs.book_streams.StreamsKept.{states_of, states_with, w
 use Rattle.driver_step.specs.book_fates.declared.timed_fates.Fates.{Fates}
 use Rattle.driver_step.specs.book_fates.FateSteps.{Knows, WatchesOnly}
 use Rattle.driver_step.specs.book_fates.Timing.{AreAskedBy, AreTimedBut, NoneWanted, StoppedBy, TurnsAt, timed_at, unreached_among}
-use Rattle.xc_keys.specs.Keys.{is_key}
+use Rattle.xc_keys.specs.Keys.{is_key, key_cmp}
 use Rattle.xc_keys.proofs.KeyLemmas.{same_key}
 use Rattle.xds_cache.specs.declared.fate.Known.{Known}
 use Rattle.xds_cache.specs.KeptFates.{Watched as Rows, fate_at, fate_of, known_of, watched}
@@ -73,10 +74,14 @@ only_by s past c now w by = marked_only s c past (pages s past) now (turned_by c
 
 -- ---- what is reached
 
+pub none_rises : IsStrictlySortedBy key_cmp []
+unfolding IsStrictlySortedBy
+none_rises = tt
+
 pub reached_by : (s : Setting) (past : List Entry) (c : Came) (now : Time) (reached : List Key) (old new : Watcher) → IsHeardBy s past c now old → new.boot ≡ old.boot → new.streams ≡ old.streams →
-    new.fates.timers ≡ old.fates.timers → new.fates.reached ≡ old.fates.reached → new.fates.untimed ≡ old.fates.untimed → new.deps.target ≡ old.deps.target → new.deps.reached ≡ reached → IsWatching old.fates.cache new.fates.cache reached →
+    new.fates.timers ≡ old.fates.timers → new.fates.reached ≡ old.fates.reached → new.fates.untimed ≡ old.fates.untimed → new.deps.target ≡ old.deps.target → new.deps.reached ≡ reached → IsStrictlySortedBy key_cmp reached → IsWatching old.fates.cache new.fates.cache reached →
     IsRightBy new.boot.authorities new.fates.cache new.deps → IsReachedBy s past c now reached new
-reached_by s past c now reached old new by boot streams timers before untimed target keys watching right =
+reached_by s past c now reached old new by boot streams timers before untimed target keys rising watching right =
     let same : setting_by new ≡ setting_by old = ap₂ setting_of boot target in record {
       setting_is = by.setting_is ∙ sym same;
       streams_are = ap (λ w. w.states) streams ∙ by.streams_are;
@@ -87,6 +92,7 @@ reached_by s past c now reached old new by boot streams timers before untimed ta
       untimed_are = untimed;
       watching = watching;
       keys_are = keys;
+      rising = rising;
       told_are = ap (λ w. w.told) streams ∙ by.told_are ∙ sym before;
       right = right;
     }
@@ -189,6 +195,7 @@ watched_after s past line event reply now a reached old new by assembled_is same
       streams_are = streams;
       fates_are = kept;
       keys_are = ap (λ d. d.reached) deps ∙ by.keys_are ∙ sym keys;
+      rising = subst (IsStrictlySortedBy key_cmp) (sym keys) by.rising;
       told_are = told ∙ sym keys;
       right = subst (λ b. IsRightBy b.authorities new.fates.cache new.deps) (sym boot) (subst (λ rows. IsRightBy old.boot.authorities rows new.deps) (sym cache) (subst (IsRightBy old.boot.authorities old.fates.cache) (sym deps) by.right));
     }

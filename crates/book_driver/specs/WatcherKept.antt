@@ -1,8 +1,10 @@
 -- What is kept of streams and watched keys, and what it is of the history.
 use Rattle.std.specs.Prelude.{◌≡◌, List, Option}
+use Rattle.std.specs.List.Sorted.{IsStrictlySortedBy}
 use Rattle.std.specs.Option.{option_or}
 use Rattle.xc_base.specs.declared.names.Key.{Key}
 use Rattle.xc_base.specs.declared.names.Time.{Time}
+use Rattle.xc_keys.specs.Keys.{key_cmp}
 use Rattle.xds_config.specs.declared.config.Config.{Config}
 use Rattle.call_journal.specs.declared.event.DriverEvent.{DriverEvent}
 use Rattle.call_journal.specs.declared.entry.Entry.{Entry}
@@ -32,6 +34,8 @@ pub record IsWatcherAt (s : Setting) (past : List Entry) (w : Watcher) : Type 0 
   pub keys_are : w.deps.reached ≡ w.fates.reached
   -- the streams were told these keys last
   pub told_are : w.streams.told ≡ w.fates.reached
+  -- which stand in the order of keys
+  pub rising : IsStrictlySortedBy key_cmp w.fates.reached
   -- and what the last update made is right by what is known
   pub right : IsRightBy w.boot.authorities w.fates.cache w.deps
 
@@ -54,6 +58,7 @@ pub record IsReachedBy (s : Setting) (past : List Entry) (c : Came) (now : Time)
   pub untimed_are : w.fates.untimed ≡ marks.untimed
   pub watching : IsWatching marks.cache w.fates.cache reached
   pub keys_are : w.deps.reached ≡ reached
+  pub rising : IsStrictlySortedBy key_cmp reached
   pub told_are : w.streams.told ≡ w.fates.reached
   pub right : IsRightBy w.boot.authorities w.fates.cache w.deps
 

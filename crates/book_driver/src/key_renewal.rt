@@ -1,6 +1,8 @@
 //! What an event comes to for the streams and the keys that are watched.
 ghost use Rattle.std.specs.Prelude.{◌≡◌, ◌<◌, ◌↔◌, List, length, IfOk, IfSome, IsNone, IsSome, unwrap_or, OnOk};
+ghost use Rattle.std.specs.List.Sorted.{IsStrictlySortedBy};
 ghost use Rattle.std.specs.Option.{option_or};
+ghost use Rattle.xc_keys.specs.Keys.{key_cmp};
 ghost use Rattle.dep_manager.specs.ShownEntries.{StandAsShown};
 ghost use Rattle.xds_config.specs.Configs.{IsLawfulConfig};
 ghost use Rattle.call_journal.specs.declared.entry.Entry.{Entry as EntryValue};
@@ -49,7 +51,7 @@ struct Intake {
     verdict: Verdict,
     /// The pattern texts that are refused at it.
     refused: List<Text>,
-    /// The watched keys of which something else may be known by it.
+    /// The watched keys of which something else is known by it.
     changed: List<Key>,
 }
 
@@ -66,17 +68,16 @@ impl Watcher {
         requires known { IfSome (authority_in event.now) (λ a. a.0 < length self.old.streams.states) }
         requires prepared { IsPreparedFor event.now prepared }
         requires only { WatchesOnly self.old.fates.cache self.old.fates.reached }
+        requires rising { IsStrictlySortedBy key_cmp self.old.fates.reached }
         ensures heard { IfOk result (λ heard. (s : Setting) (past : List EntryValue) → IsWatcherAt s past self.old → IsHeardBy s past (came_with event.now heard.verdict heard.refused) now self.new) }
         ensures told { IfOk result (λ heard. (s : Setting) (past : List EntryValue) → IsWatcherAt s past self.old → IsToldBy s past event.now prepared heard.verdict heard.refused) }
         ensures shown { OnOk result (self.new.deps.shown ≡ self.old.deps.shown) }
         ensures changed { IfOk result (λ heard. IsRightBy self.old.boot.authorities self.old.fates.cache self.old.deps → HaveChanged self.new.boot.authorities self.new.deps self.new.fates.cache heard.changed) }
     {
         let heard = hear(self.alloc, &mut self.streams, event, prepared)?;
-        let touched = self.fates.touched_keys(&heard.answered)?;
         let brought = Brought {
             verdict: heard.verdict,
             answered: heard.answered,
-            touched,
         };
         let changed = mark(&mut self.fates, event, brought, now, steps)?;
         Ok(Intake {

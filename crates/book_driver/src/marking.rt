@@ -1,5 +1,7 @@
 //! What an event brings for the watched keys.
-ghost use Rattle.std.specs.Prelude.{◌≡◌, List, [], None, Some, IfOk, OnOk, IfSome, option_map, unwrap_or, if◌then◌else◌};
+ghost use Rattle.std.specs.Prelude.{◌≡◌, List, None, Some, IfOk, OnOk, IfSome, option_map, if◌then◌else◌};
+ghost use Rattle.std.specs.List.Sorted.{IsStrictlySortedBy};
+ghost use Rattle.xc_keys.specs.Keys.{key_cmp};
 ghost use Rattle.call_journal.specs.declared.entry.Entry.{Entry as EntryValue};
 ghost use Rattle.book_trees.specs.xds_history.Setting.{Setting};
 ghost use Rattle.book_trees.specs.xds_history.Responses.{Came, answered};
@@ -7,7 +9,7 @@ ghost use Rattle.book_trees.specs.xds_history.Streams.{is_broken, is_unreadable}
 ghost use Rattle.book_trees.specs.xds_history.declared.page.Page.{Page as PageValue};
 ghost use Rattle.dep_manager.specs.KeptAssemblies.{AreChanges};
 ghost use Rattle.driver_step.specs.book_fates.FateSteps.{WatchesOnly};
-ghost use Rattle.driver_step.specs.book_fates.Delivered.{HasTouched, IsReady, delivered_by, delivered_in};
+ghost use Rattle.driver_step.specs.book_fates.Delivered.{IsReady, delivered_by, delivered_in};
 ghost use Rattle.driver_step.specs.book_fates.FatesKept.{IsKeptAt, IsMarkedAt, is_moment, turned_by};
 
 use ads_stream::Verdict;
@@ -59,22 +61,22 @@ fn is_moment(event: &DriverEvent) -> bool
 }
 
 /// Takes in an event that brings no answered response: time passes, or a stream turns. It answers the keys that were waited
-/// for in vain, where time passes, and fails for want of memory alone.
+/// for in vain, and fails for want of memory alone.
 fn pass_or_turn(
     fates: &mut Fates,
     event: &DriverEvent,
     verdict: Verdict,
     now: Time,
-) -> Result<Option<List<Key>>, Memory>
-    ensures changes { IfOk result (λ expired. AreChanges fates.old.cache fates.new.cache (unwrap_or expired [])) }
+) -> Result<List<Key>, Memory>
+    ensures changes { IfOk result (AreChanges fates.old.cache fates.new.cache) }
     ensures marked { OnOk result ((s : Setting) (c : Came) (past : List EntryValue) (ps : List PageValue) → c.event ≡ event.now → c.verdict ≡ verdict → answered s c ≡ None → IsKeptAt past ps fates.old → IsMarkedAt s c past ps now (turned_by event.now verdict) fates.new) }
 {
     if is_moment(event) {
         let expired = fates.pass(now)?;
-        return Ok(Some(expired));
+        return Ok(expired);
     }
     fates.turn(turned_by(event, verdict))?;
-    Ok(None)
+    Ok(List::new(fates.alloc))
 }
 
 /// What an event brings for the watched keys.
@@ -84,22 +86,10 @@ pub struct Brought {
     pub verdict: Verdict,
     /// The response that it is, where that is answered.
     pub answered: Option<Answered>,
-    /// The watched keys that the response can change.
-    pub touched: List<Key>,
-}
-
-/// The keys that were waited for in vain, where time passed, else those that a response touched.
-fn changed_by(expired: Option<List<Key>>, touched: List<Key>) -> List<Key>
-    ensures { result ≡ unwrap_or expired touched }
-{
-    match expired {
-        Some(expired) => expired,
-        None => touched,
-    }
 }
 
 /// Takes in what an event brings for the watched keys: an answered response, or time, or that a stream turns (Envoy's xDS
-/// transport, gRFC A47). It answers the keys of which something else may be known by it, and fails for want of memory alone.
+/// transport, gRFC A47). It answers the keys of which something else is known by it, and fails for want of memory alone.
 pub fn mark<L: Ledger>(
     fates: &mut Fates,
     event: &DriverEvent,
@@ -109,23 +99,19 @@ pub fn mark<L: Ledger>(
 ) -> Result<List<Key>, Memory>
     requires ready { IfSome brought.answered IsReady }
     requires only { WatchesOnly fates.old.cache fates.old.reached }
-    requires touched { HasTouched brought.answered fates.old.cache brought.touched }
+    requires rising { IsStrictlySortedBy key_cmp fates.old.reached }
     ensures changes { IfOk result (AreChanges fates.old.cache fates.new.cache) }
     ensures marked { OnOk result ((s : Setting) (c : Came) (past : List EntryValue) (ps : List PageValue) → c.event ≡ event.now → c.verdict ≡ brought.verdict → option_map delivered_in brought.answered ≡ option_map delivered_by (answered s c) → IsKeptAt past ps fates.old → IsMarkedAt s c past ps now (turned_by event.now brought.verdict) fates.new) }
 {
-    let Brought {
-        verdict,
-        answered,
-        touched,
-    } = brought;
+    let Brought { verdict, answered } = brought;
     match answered {
         Some(response) => {
-            fates.take(response, touched.as_slice(), steps)?;
-            Ok(touched)
+            let changed = fates.take(response, steps)?;
+            Ok(changed)
         }
         None => {
             let expired = pass_or_turn(fates, event, verdict, now)?;
-            Ok(changed_by(expired, touched))
+            Ok(expired)
         }
     }
 }

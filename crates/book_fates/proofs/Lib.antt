@@ -10,7 +10,8 @@ pub mod KeptLemmas
 pub mod PageLemmas
 pub mod QuietLemmas
 pub mod NameLemmas
-pub mod TouchLemmas
+pub mod ListedLemmas
+pub mod KindLemmas
 pub mod TimedLemmas
 pub use Rattle.xds_history.proofs.dep_manager as dep_manager
 pub use Rattle.xds_history.proofs as xds_history

@@ -26,8 +26,8 @@ use Rattle.xds_history.specs.Page.{watched_now}
 use Rattle.xds_history.specs.Fates.{first_asked, is_over}
 use Rattle.book_fates.specs.declared.answered.Answered.{Answered}
 use Rattle.book_fates.specs.declared.timed_fates.Fates.{Fates}
-use Rattle.book_fates.specs.Delivered.{HasTouched, delivered_in, told_as}
-use Rattle.book_fates.specs.FateSteps.{Knows, Stepped, brings, out_among, told_step}
+use Rattle.book_fates.specs.Delivered.{delivered_in, told_as}
+use Rattle.book_fates.specs.FateSteps.{AreListed, Knows, Stepped, brings, out_among, told_step}
 use Rattle.book_fates.specs.Timing.{AreTimed, AreTimedBut, Stopped, StartedBy, StoppedBy, asked_among, asks_at, expires_at, first_among, is_awaited, is_idle, is_turned, known_in, lost_among, timed_at, unreached_among}
 use Rattle.book_fates.specs.FatesKept.{IsLeftBy, KnowsTimed, keys_in}
 use Rattle.book_fates.proofs.EntryLemmas.{known_awaited, runs_by, start_hit, start_miss}
@@ -241,14 +241,6 @@ was_wanted_told a old rows key stepped wanted =
     wanted_back (told_step (told_of a) key) key.home (known_of old key) (λ known. wanted_before (brings (told_of a) key known) known)
     (subst (λ o. is_wanted (fate_at key.home o) ≡ true) (stepped key) wanted)
 
-stands_if : (f : Known → Known) (o : Option Known) → (IsSome o → (known : Known) → f known ≡ known) → option_map f o ≡ o
-stands_if f None is = refl
-stands_if f (Some known) is = ap Some (is refl known)
-
--- of what isn't touched the same is known
-untouched : (a : Answered) (old rows : Rows) (touched : List Key) (key : Key) → HasTouched (Some a) old touched → Stepped old rows (told_step (told_of a)) → has_key touched key ≡ false → known_of rows key ≡ known_of old key
-untouched a old rows touched key only stepped none = stepped key ∙ stands_if (told_step (told_of a) key) (known_of old key) (λ some. only key some none)
-
 lost_here : (t r w : Bool) → r ≡ true → (t && (false || not w)) ≡ true → (r && (false || not w)) ≡ true
 lost_here true true w has is = is
 lost_here false true w has is = absurd (cc is)
@@ -270,17 +262,17 @@ runs_watched past ps key (Home.At a) runs =
     let (was, up) = runs_by (is_awaited (known_in (watched_now ps) key)) (is_up a past) (first_asked ps a key) runs in
     known_awaited (known_in (watched_now ps) key) was
 
--- the timers that end by it are those of keys that it touches
-pub touched_lost : (a : Answered) (past : List Entry) (ps : List Page) (timers after : Running) (touched before : List Key) (old rows : Rows) → AreTimed past ps timers → Knows old (watched_now ps) → before ≡ keys_in (watched_now ps) →
-    HasTouched (Some a) old touched → Stepped old rows (told_step (told_of a)) → StoppedBy timers after (lost_among touched None rows) → StoppedBy timers after (lost_among before None rows)
-touched_lost a past ps timers after touched before old rows are knows keys_are only stepped stops key =
+-- the timers that end by it are those of keys of which something else is known
+pub changed_lost : (past : List Entry) (ps : List Page) (timers after : Running) (changed before : List Key) (old rows : Rows) → AreTimed past ps timers → Knows old (watched_now ps) → before ≡ keys_in (watched_now ps) →
+    AreListed old rows [] changed → StoppedBy timers after (lost_among changed None rows) → StoppedBy timers after (lost_among before None rows)
+changed_lost past ps timers after changed before old rows are knows keys_are listed stops key =
     let w : Bool = is_wanted (fate_of rows key) in
     stops key
-    ∙ same_stop (has_key touched key && (false || not w)) (has_key before key && (false || not w)) (started_at timers key)
-    (λ runs is. lost_here (has_key touched key) (has_key before key) w
+    ∙ same_stop (has_key changed key && (false || not w)) (has_key before key && (false || not w)) (started_at timers key)
+    (λ runs is. lost_here (has_key changed key) (has_key before key) w
     (has_kept (watched_now ps) before key keys_are (runs_watched past ps key key.home (subst (λ o. IsSome o) (are key) runs))) is)
-    (λ runs none. not_lost_here (has_key touched key) (has_key before key) w
-    (λ free. ap (λ o. is_wanted (fate_at key.home o)) (untouched a old rows touched key only stepped free)
+    (λ runs none. not_lost_here (has_key changed key) (has_key before key) w
+    (λ free. ap (λ o. is_wanted (fate_at key.home o)) ((listed key free).1)
     ∙ runs_wanted past ps old key key.home knows (subst (λ o. IsSome o) (are key) runs)) none)
 
 not_stopped : (t w : Bool) (o : Option Time) → w ≡ true → IsSome o → IsSome (if t && (false || not w) then None else o)

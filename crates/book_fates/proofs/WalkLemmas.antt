@@ -118,7 +118,7 @@ two_steps : (f g : Known → Known) (o : Option Known) → option_map f (option_
 two_steps f g None = refl
 two_steps f g (Some known) = refl
 
-by_point : (f g : Known → Known) (o : Option Known) → ((known : Known) → f known ≡ g known) → option_map f o ≡ option_map g o
+pub by_point : (f g : Known → Known) (o : Option Known) → ((known : Known) → f known ≡ g known) → option_map f o ≡ option_map g o
 by_point f g None same = refl
 by_point f g (Some known) same = ap Some (same known)
 

@@ -1,12 +1,12 @@
 -- What an entry changes of what is known of watched keys.
-use Rattle.std.specs.Prelude.{◌≡◌, List, [], ◌∷◌, Bool, false, ◌&&◌, Option, Some, None, if◌then◌else◌, option_map, option_and_then, true, is_ok, is_some, All, IfOk, IsSome}
-use Rattle.std.specs.List.{filter_map}
+use Rattle.std.specs.Prelude.{◌≡◌, ℕ, length, filter, List, [], ◌∷◌, Bool, false, ◌&&◌, Option, Some, None, if◌then◌else◌, option_map, option_and_then, true, is_ok, All, IfOk, IsSome}
 use Rattle.std.specs.Option.{option_or}
 use Rattle.xc_base.specs.declared.names.Kind.{Kind}
 use Rattle.xc_base.specs.declared.names.Authority.{Authority}
 use Rattle.xc_base.specs.declared.names.Home.{Home}
 use Rattle.xc_base.specs.declared.names.Key.{Key}
 use Rattle.xc_base.specs.declared.names.Time.{Time}
+use Rattle.xc_keys.specs.Keys.{is_key}
 use Rattle.xds_config.specs.declared.value.Value.{Value}
 use Rattle.xds_cache.specs.declared.fate.Known.{Known}
 use Rattle.xds_cache.specs.KeptFates.{Watched as Rows, known_of, after_refusal}
@@ -91,22 +91,31 @@ parts_step a kind (part ∷ parts) key known = part_step a kind part key (parts_
 abbrev pub gone_step : Told → Key → Known → Known
 gone_step t key known = if is_let_go t key known then Known.Absent else known
 
--- ---- what a response can change
+-- of one key alone
+abbrev pub gone_at : Told → Key → Key → Known → Known
+gone_at t key other known = if is_key key other then gone_step t other known else known
+
+-- ---- what a response changes
 
 -- the key is of this kind, and this authority is its home
 abbrev pub is_theirs : Authority → Kind → Key → Bool
 is_theirs a kind key = same_kind kind key.kind && lives_at a key.home
 
--- the key is watched
-abbrev pub watches : Rows → Key → Bool
-watches rows key = is_some (known_of rows key)
+-- each of these keys is
+abbrev pub AreOf : Authority → Kind → List Key → Type 0
+AreOf a kind keys = All (λ key. is_theirs a kind key ≡ true) keys
+
+-- what was listed before is listed after, and so is each key of which something else is known
+abbrev pub AreListed : (old new : Rows) → (before after : List Key) → Type 0
+AreListed old new before after = (key : Key) → has_key after key ≡ false → (has_key before key ≡ false) × (known_of new key ≡ known_of old key)
+
+-- at how many keys a response of this kind is looked for what it lacks: at none, or, where its kind deletes, at those of its kind
+abbrev pub most_deleted : Kind → List Key → ℕ
+most_deleted kind keys = if deletes kind then length (filter (λ key. same_kind kind key.kind) keys) else 0
 
 -- the key of a named resource
 abbrev pub key_at : Authority → Kind → Name → Key
 key_at a kind name = record { kind = kind; name = name; home = Home.At a }
-
-abbrev pub keys_named : Authority → Kind → List Delivery → List Key
-keys_named a kind parts = filter_map (λ part. option_map (key_at a kind) part.name) parts
 
 -- ---- no name is delivered twice
 

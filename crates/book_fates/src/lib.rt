@@ -7,6 +7,7 @@ pub mod answered;
 pub mod fates;
 pub mod fates_laws;
 pub mod key_set;
+pub mod kind_ranges;
 pub mod part_names;
 pub mod part_tests;
 pub mod timed_fates;

@@ -6,8 +6,8 @@ ghost use Rattle.xds_history.specs.Fates.{deletes};
 
 use xc_base::{Authority, Home, Kind};
 
-/// The place of a kind in the order of kinds.
-fn kind_place(kind: Kind) -> u8
+/// The place of a kind in the order of kinds, from 0.
+pub fn kind_place(kind: Kind) -> u8
     ensures { result ≡ kind_place kind }
 {
     match kind {

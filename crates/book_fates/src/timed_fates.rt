@@ -1,6 +1,8 @@
 //! The fates of watched keys, and their timers.
 ghost use Rattle.std.specs.Prelude.{◌≡◌, ◌≤◌, ◌+◌, ◌∷◌, ◌++◌, [], List, Option, Some, None, true, false, IsOk, OnOk, IfOk, IfSome, length, option_map, unwrap_or, if◌then◌else◌};
+ghost use Rattle.std.specs.List.Sorted.{IsStrictlySortedBy};
 ghost use Rattle.xc_base.specs.declared.names.Authority.{Authority as AuthorityValue};
+ghost use Rattle.xc_keys.specs.Keys.{key_cmp};
 ghost use Rattle.xc_base.specs.declared.names.Time.{Time as TimeValue};
 ghost use Rattle.call_journal.specs.declared.event.DriverEvent.{DriverEvent as EventValue};
 ghost use Rattle.call_journal.specs.declared.entry.Entry.{Entry as EntryValue};
@@ -10,13 +12,13 @@ ghost use Rattle.xds_history.specs.Responses.{Came, answered};
 ghost use Rattle.xds_history.specs.declared.page.Page.{Page as PageValue};
 ghost use Rattle.xds_history.specs.Fates.{deletes, marked, watch};
 ghost use Rattle.book_fates.specs.declared.timed_fates.Fates.{Fates as FatesValue};
-ghost use Rattle.book_fates.specs.FateSteps.{Stepped, WatchesOnly, out_among, told_step};
-ghost use Rattle.book_fates.specs.Delivered.{AreTheirs, HasTouched, IsReady, delivered_by, delivered_in, most_touched, told_as};
+ghost use Rattle.book_fates.specs.FateSteps.{AreListed, AreOf, Stepped, WatchesOnly, most_deleted, out_among, told_step};
+ghost use Rattle.book_fates.specs.Delivered.{IsReady, delivered_by, delivered_in, told_as};
 ghost use Rattle.book_fates.specs.Timing.{AreAskedBy, AreTimedBut, NoneWanted, StartedBy, TurnsAt, first_among};
 ghost use Rattle.book_fates.specs.FatesKept.{IsKeptAt, IsLeftBy, IsMarkedAt, StayTimed, is_moment};
 
 use crate::answered::Answered;
-use crate::fates::{take_told, touched_of};
+use crate::fates::take_told;
 use crate::timing::{
     expire, idle_keys, start_asked, stop_lost, stop_turned, stop_unreached, wanted_keys,
 };
@@ -93,46 +95,35 @@ fn with_keys(keys: Option<List<Key>>, more: &[Key]) -> Result<Option<List<Key>>,
 }
 
 impl Fates {
-    /// The watched keys that an answered response can change: those that it names, or, where its kind deletes what it lacks, each
-    /// one of its kind and home. There are none without a response. It fails for want of memory alone.
-    pub fn touched_keys(&self, response: &Option<Answered>) -> Result<List<Key>, Memory>
-        requires only { WatchesOnly self.now.cache self.now.reached }
-        ensures touched { IfOk result (HasTouched response.now self.now.cache) }
-        ensures theirs { IfOk result (AreTheirs response.now) }
-        ensures few { IfOk result (λ keys. length keys ≤ most_touched response.now self.now.reached) }
-    {
-        match response {
-            Some(response) => touched_of(
-                self.alloc,
-                &self.cache,
-                response,
-                self.reached.as_slice(),
-            ),
-            None => Ok(List::new(self.alloc)),
-        }
-    }
-
     /// Takes in an answered response. Valid resources replace what is known of their keys; an
     /// invalid one leaves a value that is there (Envoy's xDS transport, gRFC A47); listeners and clusters that the response
-    /// lacks are deleted. What came or was deleted is waited for no longer; of timers only those of the keys that the response
-    /// touches are looked at. It takes no memory.
+    /// lacks are deleted. What came or was deleted is waited for no longer. It answers the keys of which something else is known
+    /// from now on; of timers only theirs are looked at. It fails for want of memory alone, and then nothing is said of what is
+    /// kept.
     pub fn take<L: Ledger>(
         &mut self,
         response: Answered,
-        touched: &[Key],
         steps: &mut Steps<L>,
-    ) -> Result<(), Memory>
+    ) -> Result<List<Key>, Memory>
         requires ready { IsReady response }
         requires only { WatchesOnly self.old.cache self.old.reached }
-        requires touched { HasTouched (Some response) self.old.cache touched.now }
-        ensures ok { IsOk result }
-        ensures step { Stepped self.old.cache self.new.cache (told_step (told_as (delivered_in response))) }
-        ensures cost { deletes response.kind ≡ false → steps.new ≤ steps.old + length touched.now }
-        ensures marked { (s : Setting) (c : Came) (past : List EntryValue) (ps : List PageValue) (now : TimeValue) → option_map delivered_by (answered s c) ≡ Some (delivered_in response) → IsKeptAt past ps self.old → IsMarkedAt s c past ps now None self.new }
+        requires rising { IsStrictlySortedBy key_cmp self.old.reached }
+        ensures step { OnOk result (Stepped self.old.cache self.new.cache (told_step (told_as (delivered_in response)))) }
+        ensures listed { IfOk result (AreListed self.old.cache self.new.cache []) }
+        ensures theirs { IfOk result (AreOf response.authority response.kind) }
+        ensures few { IfOk result (λ changed. deletes response.kind ≡ false → length changed ≤ length response.parts) }
+        ensures cost { IfOk result (λ changed. steps.new ≤ steps.old + most_deleted response.kind self.old.reached + length changed) }
+        ensures marked { OnOk result ((s : Setting) (c : Came) (past : List EntryValue) (ps : List PageValue) (now : TimeValue) → option_map delivered_by (answered s c) ≡ Some (delivered_in response) → IsKeptAt past ps self.old → IsMarkedAt s c past ps now None self.new) }
     {
-        take_told(&mut self.cache, response, self.reached.as_slice(), steps)?;
-        stop_lost(&mut self.timers, &self.cache, touched, steps);
-        Ok(())
+        let changed = take_told(
+            self.alloc,
+            &mut self.cache,
+            response,
+            self.reached.as_slice(),
+            steps,
+        )?;
+        stop_lost(&mut self.timers, &self.cache, changed.as_slice(), steps);
+        Ok(changed)
     }
 
     /// Takes in a moment, in ms: each key that was asked for 15,000 ms ago or earlier, on a stream that is up, and is still

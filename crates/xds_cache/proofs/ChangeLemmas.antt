@@ -1,13 +1,13 @@
 -- Changes of what is known of one key.
 use Rattle.std.proofs.Common.{◌≡◌, Bool, true, false, cond, Option, Some, None, refl, sym, ap, ◌∙◌, subst}
-use Rattle.std.specs.Prelude.{IfSome, is_some, IsSome, unwrap_or}
+use Rattle.std.specs.Prelude.{◌↔◌, IfSome, is_some, IsSome, unwrap_or}
 use Rattle.xc_base.specs.declared.names.Key.{Key}
 use Rattle.xc_base.specs.declared.reason.Reason.{Reason}
 use Rattle.xc_keys.specs.Keys.{is_key}
 use Rattle.xc_keys.proofs.KeyLemmas.{same_key}
 use Rattle.xds_cache.specs.declared.fate.Known.{Known}
 use Rattle.xds_cache.specs.declared.fate.Known.TheVariants.{Wanted, Value, Invalid, Absent}
-use Rattle.xds_cache.specs.KeptFates.{Watched, known_of, IsLawfulAt, AllLawful, Changes, watched, settled, refused, is_value}
+use Rattle.xds_cache.specs.KeptFates.{Watched, known_of, IsLawfulAt, AllLawful, Changes, TellsChange, watched, settled, refused, is_value}
 
 changed_at : (b : Bool) (old new : Watched) (key other : Key) (change : Option Known → Option Known) (value : Option Known) → change (known_of old key) ≡ value →
     known_of new other ≡ cond b value (known_of old other) → known_of new other ≡ cond b (change (known_of old key)) (known_of old other)
@@ -48,6 +48,26 @@ some_settled (Some before) known some = refl
 pub none_settled : (o : Option Known) (known : Known) → o ≡ None → settled known o ≡ o
 none_settled o known none = ap (λ p. settled known p) none ∙ sym none
 
+settled_same : (o : Option Known) (known : Known) → o ≡ Some known → settled known o ≡ o
+settled_same o known is = ap (λ p. settled known p) is ∙ sym is
+
+-- ---- whether something else is known of a key
+
+-- nothing else is
+pub tells_same : (keys : Watched) (key : Key) (change : Option Known → Option Known) → change (known_of keys key) ≡ known_of keys key → TellsChange false keys key change
+tells_same keys key change same = (λ is. same, λ is. refl)
+
+pub tells_settled : (keys : Watched) (key : Key) (known : Known) → known_of keys key ≡ Some known → TellsChange false keys key (settled known)
+tells_settled keys key known is = tells_same keys key (settled known) (settled_same (known_of keys key) known is)
+
+other_known : (o : Option Known) (before known : Known) → o ≡ Some before → settled known o ≡ o → before ≡ known
+other_known None before known is same = absurd (cc is)
+other_known (Some k) before known is same = cc (is, same)
+
+-- something else is
+pub tells_other : (keys : Watched) (key : Key) (before known : Known) → known_of keys key ≡ Some before → (before ≡ known → true ≡ false) → TellsChange true keys key (settled known)
+tells_other keys key before known is other = (λ no. absurd (cc no), λ same. other (other_known (known_of keys key) before known is same))
+
 pub watched_again : (o : Option Known) → IsSome o → watched o ≡ o
 watched_again None some = cc
 watched_again (Some known) some = refl
@@ -76,6 +96,9 @@ refused_else (Some Absent) reason is = refl
 -- the same change by another word
 pub changes_alike : (old new : Watched) (key : Key) (one other : Option Known → Option Known) → one (known_of old key) ≡ other (known_of old key) → Changes old new key one → Changes old new key other
 changes_alike old new key one other is changes = λ k. changes k ∙ ap (λ o. cond (is_key key k) o (known_of old k)) is
+
+pub tells_alike : (is_other : Bool) (old : Watched) (key : Key) (one other : Option Known → Option Known) → one (known_of old key) ≡ other (known_of old key) → TellsChange is_other old key one → TellsChange is_other old key other
+tells_alike is_other old key one other is tells = subst (λ o. (is_other ≡ false) ↔ (o ≡ known_of old key)) is tells
 
 pub lawful_known : (keys : Watched) (key : Key) (known : Known) → AllLawful keys → known_of keys key ≡ Some known → IsLawfulAt key known
 lawful_known keys key known lawful is = subst (λ o. IfSome o (IsLawfulAt key)) is (lawful key)

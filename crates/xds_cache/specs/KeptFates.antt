@@ -1,5 +1,5 @@
 -- What is known of watched keys, and what each call changes.
-use Rattle.std.specs.Prelude.{◌≡◌, Bool, true, false, List, Option, Some, None, IfSome, unwrap_or, option_map, ⊤, if◌then◌else◌}
+use Rattle.std.specs.Prelude.{◌≡◌, ◌↔◌, Bool, true, false, List, Option, Some, None, IfSome, unwrap_or, option_map, ⊤, if◌then◌else◌}
 use Rattle.std.specs.Map.{lookup}
 use Rattle.xc_base.specs.declared.names.Key.{Key}
 use Rattle.xc_base.specs.declared.names.Home.{Home}
@@ -65,6 +65,10 @@ AllLawful keys = (key : Key) → IfSome (known_of keys key) (IsLawfulAt key)
 -- what is known of this key changes so, and of all others the same is known as before
 abbrev pub Changes : Watched → Watched → Key → (Option Known → Option Known) → Type 0
 Changes old new key change = (other : Key) → known_of new other ≡ (if is_key key other then change (known_of old key) else known_of old other)
+
+-- this says whether such a change makes something else of what is known of this key
+abbrev pub TellsChange : Bool → Watched → Key → (Option Known → Option Known) → Type 0
+TellsChange is_other old key change = (is_other ≡ false) ↔ (change (known_of old key) ≡ known_of old key)
 
 -- what is known of a key once it is watched: what was known of it before, if it was
 abbrev pub watched : Option Known → Option Known

@@ -1,8 +1,8 @@
 //! The cache of fates.
-ghost use Rattle.std.specs.Prelude.{◌≡◌, ◌+◌, [], OnOk, OnErr, IsOk, unwrap_or, is_some};
+ghost use Rattle.std.specs.Prelude.{◌≡◌, ◌+◌, [], OnOk, OnErr, IfOk, IsOk, unwrap_or, is_some};
 ghost use Rattle.xds_cache.specs.declared.fate.Known.TheVariants.{Wanted};
 ghost use Rattle.xds_config.specs.Values.{IsLawfulValue, kind_of};
-ghost use Rattle.xds_cache.specs.KeptFates.{IsLawfulAt, Changes, watched, unwatched, settled, accepted, refused, taken_away, fate_of, is_value, known_of, shown};
+ghost use Rattle.xds_cache.specs.KeptFates.{IsLawfulAt, Changes, TellsChange, watched, unwatched, settled, accepted, refused, taken_away, fate_of, is_value, known_of, shown};
 
 use crate::fate::{Fate, Known, reason_of};
 use std::alloc::Global;
@@ -10,7 +10,7 @@ use std::collections::BTreeMap;
 use std::marker::Model;
 use std::mem::replace;
 use std::sync::ledger::Ledger;
-use xc_base::{Home, Key, Memory, Reason, Steps};
+use xc_base::{Home, Key, Memory, Reason, Same, Steps};
 use xds_config::Value;
 
 /// The watched keys and what is known of each, which contracts see as the list of both in the order of the keys. A
@@ -83,47 +83,60 @@ impl Cache {
         matches!(self.known_fate(key), Fate::Value(_))
     }
 
-    /// Puts this in place of what is known of the key, where it is watched.
-    fn settle(&mut self, key: &Key, known: Known)
+    /// Puts this in place of what is known of the key, where it is watched and something else is known of it. It answers whether
+    /// it does.
+    fn settle(&mut self, key: &Key, known: Known) -> bool
         requires { IsLawfulAt key.now known }
-        ensures { Changes self.old self.new key.now (settled known) }
+        ensures change { Changes self.old self.new key.now (settled known) }
+        ensures told { TellsChange result self.old key.now (settled known) }
     {
         let Some(place) = self.known.get_mut(key) else {
             let_go(Some(known));
-            return;
+            return false;
         };
+        if place.same(&known) {
+            let_go(Some(known));
+            return false;
+        }
         let before = replace(place, known);
         let_go(Some(before));
+        true
     }
 
-    /// Takes in a valid resource, where the key is watched. It always succeeds.
-    pub fn accept(&mut self, key: &Key, value: Value) -> Result<(), Memory>
+    /// Takes in a valid resource, where the key is watched. It always succeeds, and answers whether something else is known of
+    /// the key from now on.
+    pub fn accept(&mut self, key: &Key, value: Value) -> Result<bool, Memory>
         requires lawful { IsLawfulValue value }
         requires kind { kind_of value ≡ key.now.kind }
         ensures ok { IsOk result }
         ensures change { Changes self.old self.new key.now (accepted value) }
+        ensures told { IfOk result (λ is_other. TellsChange is_other self.old key.now (accepted value)) }
     {
-        self.settle(key, Known::Value(value));
-        Ok(())
+        let is_other = self.settle(key, Known::Value(value));
+        Ok(is_other)
     }
 
     /// Takes in that a resource was refused, where the key is watched: a value stays, and the reason takes the place of
-    /// all else. It always succeeds.
-    pub fn refuse(&mut self, key: &Key, reason: Reason) -> Result<(), Memory>
+    /// all else. It always succeeds, and answers whether something else is known of the key from now on.
+    pub fn refuse(&mut self, key: &Key, reason: Reason) -> Result<bool, Memory>
         ensures ok { IsOk result }
         ensures change { Changes self.old self.new key.now (refused reason) }
+        ensures told { IfOk result (λ is_other. TellsChange is_other self.old key.now (refused reason)) }
     {
-        if !self.has_value(key) {
-            self.settle(key, Known::Invalid(reason));
+        if self.has_value(key) {
+            return Ok(false);
         }
-        Ok(())
+        let is_other = self.settle(key, Known::Invalid(reason));
+        Ok(is_other)
     }
 
-    /// Takes in that the resource was deleted, where the key is watched. It takes no memory.
-    pub fn delete(&mut self, key: &Key)
-        ensures { Changes self.old self.new key.now taken_away }
+    /// Takes in that the resource was deleted, where the key is watched. It takes no memory, and answers whether something else is
+    /// known of the key from now on.
+    pub fn delete(&mut self, key: &Key) -> bool
+        ensures change { Changes self.old self.new key.now taken_away }
+        ensures told { TellsChange result self.old key.now taken_away }
     {
-        self.settle(key, Known::Absent);
+        self.settle(key, Known::Absent)
     }
 
     /// Takes in that the resource was waited for in vain, where the key is watched. It takes no memory.

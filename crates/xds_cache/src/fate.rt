@@ -2,7 +2,7 @@
 ghost use Rattle.std.specs.Prelude.{◌≡◌};
 ghost use Rattle.xds_cache.specs.KeptFates.{reason_of, shown};
 
-use xc_base::{NameFault, Reason};
+use xc_base::{NameFault, Reason, Same};
 use xds_config::Value;
 
 /// What is known of a watched key.
@@ -28,6 +28,17 @@ impl Known {
             Known::Value(value) => Fate::Value(value),
             Known::Invalid(reason) => Fate::Invalid(reason),
             Known::Absent => Fate::Absent,
+        }
+    }
+}
+
+impl Same for Known {
+    fn same(&self, other: &Known) -> bool {
+        match (self, other) {
+            (Known::Wanted, Known::Wanted) | (Known::Absent, Known::Absent) => true,
+            (Known::Value(value), Known::Value(known)) => value.same(known),
+            (Known::Invalid(reason), Known::Invalid(known)) => reason.same(known),
+            _ => false,
         }
     }
 }

@@ -1,4 +1,4 @@
-use Rattle.std.proofs.Common.{[], sym, ap, ◌∙◌, subst}
+use Rattle.std.proofs.Common.{sym, ap, ◌∙◌, subst}
 use Rattle.driver_step.specs.book_fates.FatesKept.{IsMarkedAt, is_moment}
 use Rattle.book_driver.proofs.ChangeLemmas.{out_changes, same_changes}
 use Rattle.book_driver.proofs.MarkLemmas.{moment_marks}
@@ -13,7 +13,7 @@ returns-then-is_moment-clause-marked c s came past ps event verdict none kept =
     (λ time is. c.in_ok-expired.ensures.marked s came past ps time is kept)
 
 pub returns-clause-changes : goal.returns-clause-changes
-returns-clause-changes c = same_changes c.args.fates.now.cache c.turn.new.self.cache [] c.in_ok-turn.ensures.cache
+returns-clause-changes c = same_changes c.args.fates.now.cache c.turn.new.self.cache c.new.result c.in_ok-turn.ensures.cache
 
 pub returns-clause-marked : goal.returns-clause-marked
 returns-clause-marked c s came past ps event verdict none kept =

@@ -1,5 +1,5 @@
 use Rattle.book_fates.specs.Timing.{is_idle}
-use Rattle.book_fates.proofs.TouchLemmas.{filter_next}
+use Rattle.book_fates.proofs.ListedLemmas.{filter_next}
 use Rattle.book_fates.proofs.timing.idle_keys.Goals as goal
 
 pub loop-key-preserved : goal.loop-key-preserved

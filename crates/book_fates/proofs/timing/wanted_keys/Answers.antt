@@ -1,7 +1,7 @@
 use Rattle.std.proofs.Common.{arith}
 use Rattle.xds_cache.specs.KeptFates.{fate_of}
 use Rattle.config_assembly.specs.Reach.{is_wanted}
-use Rattle.book_fates.proofs.TouchLemmas.{filter_next}
+use Rattle.book_fates.proofs.ListedLemmas.{filter_next}
 use Rattle.book_fates.proofs.timing.wanted_keys.Goals as goal
 
 pub loop-key-preserved : goal.loop-key-preserved

@@ -6,7 +6,7 @@ pub returns-clause-reached : goal.returns-clause-reached
 returns-clause-reached g c s past came now by =
     reached_by s past came now c.in_ok-outcome.outcome.reached c.args.self.now
     (record { alloc = c.args.self.now.alloc; boot = c.args.self.now.boot; deps = c.update.new.self; streams = c.args.self.now.streams; fates = record { alloc = c.args.self.now.fates.alloc; cache = c.update.new.cache; timers = c.args.self.now.fates.timers; reached = c.args.self.now.fates.reached; untimed = c.args.self.now.fates.untimed } })
-    by refl refl refl refl refl c.in_ok-outcome.ensures.held.0 c.in_ok-outcome.ensures.held.1 c.in_ok-outcome.ensures.watched c.in_ok-outcome.ensures.kept
+    by refl refl refl refl refl c.in_ok-outcome.ensures.held.0 c.in_ok-outcome.ensures.held.1 c.in_ok-outcome.ensures.rising c.in_ok-outcome.ensures.watched c.in_ok-outcome.ensures.kept
 
 pub returns-clause-assembly : goal.returns-clause-assembly
 returns-clause-assembly g c s past came now by timely =

@@ -7,6 +7,9 @@ use Rattle.book_driver.proofs.watcher.Watcher.renew.Goals as goal
 pub take_in-requires-clause-only : goal.take_in-requires-clause-only
 take_in-requires-clause-only g c = only_at (setting_by c.args.self.now) c.requires.at.past c.args.self.now c.requires.at.at
 
+pub take_in-requires-clause-rising : goal.take_in-requires-clause-rising
+take_in-requires-clause-rising g c = c.requires.at.at.rising
+
 pub assemble-requires-clause-only : goal.assemble-requires-clause-only
 assemble-requires-clause-only g c =
     only_by (setting_by c.args.self.now) c.requires.at.past (came_with c.args.event.now c.in_ok-heard.heard.verdict c.in_ok-heard.heard.refused) c.args.now c.take_in.new.self
