@@ -32,7 +32,16 @@ fn target(alloc: Global) -> Result<Target, Memory>
     Ok(Target { key, host })
 }
 
-fn update_counted<L: Ledger>(blank: Blank, alloc: Global) -> Result<Outcome, Memory>
+/// What a first update comes to, whether what it made serves calls that refer to nothing, and what an update in place comes to
+/// then.
+#[derive(Drop)]
+struct FirstUpdates {
+    first: Outcome,
+    serves: bool,
+    next: Option<Outcome>,
+}
+
+fn update_counted<L: Ledger>(blank: Blank, alloc: Global) -> Result<FirstUpdates, Memory>
     requires name { blank.name ≡ L.name }
     requires parts { blank.parts ≡ L.parts }
     requires some { 0 < blank.parts }
@@ -42,25 +51,50 @@ fn update_counted<L: Ledger>(blank: Blank, alloc: Global) -> Result<Outcome, Mem
     let mut deps = Deps::new(alloc, target(alloc)?)?;
     let boot = bootstrap(alloc);
     let none = List::new(alloc);
-    deps.update(
+    let first = deps.update(
         alloc,
         &boot,
         &List::new(alloc),
         &none,
         &mut cache,
         &mut steps,
-    )
+    )?;
+    let serves = deps.serves(alloc, &none)?;
+    let next = deps.update_in_place(alloc, &List::new(alloc), &cache, &mut steps)?;
+    Ok(FirstUpdates {
+        first,
+        serves,
+        next,
+    })
 }
 
-fn first_update(alloc: Global) -> Result<Outcome, Memory> {
+fn first_updates(alloc: Global) -> Result<FirstUpdates, Memory> {
     update_counted::<Brand>(Blank::new(1), alloc)
 }
 
 #[test]
 fn the_listener_is_reached_and_awaited_first(rt: HostRuntime) -> Result<(), Fail> {
-    let outcome = first_update(rt.alloc())?;
+    let outcome = first_updates(rt.alloc())?.first;
     assert_eq!(rt; outcome.reached.as_slice().len(), 1);
     assert!(rt; outcome.missing.is_some());
     assert!(rt; outcome.config.is_none());
+    Ok(())
+}
+
+#[test]
+fn what_was_made_first_serves_calls_that_refer_to_nothing(rt: HostRuntime) -> Result<(), Fail> {
+    let updates = first_updates(rt.alloc())?;
+    assert!(rt; updates.serves);
+    Ok(())
+}
+
+#[test]
+fn an_update_in_place_reaches_the_same(rt: HostRuntime) -> Result<(), Fail> {
+    let updates = first_updates(rt.alloc())?;
+    let Some(next) = updates.next else {
+        return Err(Fail::from("an update in place follows a first one"));
+    };
+    assert_eq!(rt; next.reached.as_slice().len(), 1);
+    assert!(rt; next.stays);
     Ok(())
 }

@@ -25,8 +25,7 @@ use Rattle.config_assembly.specs.Watching.{IsWatching, has_key}
 use Rattle.config_assembly.proofs.ReachLemmas.{whole_where}
 use Rattle.dep_manager.specs.Laws.{AgreeAt, with_fates}
 use Rattle.dep_manager.specs.CallsAlone.{AreCallsAlone}
-use Rattle.dep_manager.specs.KeptAssemblies.{AreChanges, HaveChanged, IsAssembledOf, IsKeptOf, IsRightBy, Managed, config_if, config_so_far, kept_with, least_of, source_of, sources_of}
-use Rattle.dep_manager.specs.ShownEntries.{StandAsShown}
+use Rattle.dep_manager.specs.KeptAssemblies.{IsAssembledOf, IsKeptOf, IsRightBy, Managed, config_if, config_so_far, kept_with, least_of, source_of, sources_of}
 use Rattle.dep_manager.specs.UpdateOutcomes.{IsOutcomeBy, outcome_of}
 use Rattle.dep_manager.specs.declared.kept_assembly.Kept.{Kept}
 use Rattle.dep_manager.proofs.DecideLemmas.{at_cluster, at_route, at_target, entry_same}

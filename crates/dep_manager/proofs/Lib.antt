@@ -8,6 +8,7 @@ pub mod PlaceLemmas
 pub mod ReachSteps
 pub mod RenewLemmas
 pub mod RootLemmas
+pub mod ServedLemmas
 pub mod ShownLemmas
 pub mod SortedKeys
 pub mod ToldLemmas

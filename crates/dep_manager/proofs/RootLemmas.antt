@@ -1,7 +1,7 @@
 -- Roots that stay where calls refer to other clusters than before.
 use Rattle.std.proofs.Common.{◌≡◌, ℕ, zero, suc, ◌+◌, ◌<◌, append-nil, get_or, take, if◌then◌else◌, Bool, true, false, ◌||◌, ◌&&◌, not, List, [], ◌∷◌, ◌++◌, length, map, refl, sym, ap, ap₂, ◌∙◌, subst}
 use Rattle.std.specs.Prelude.{◌↔◌, ◌≢◌, All, IsNone, option_map, slice_get, IfSome, IsSome, IsSomeAnd, IsTrue, Option, None, Some, Err, filter, is_some, unwrap_or}
-use Rattle.std.specs.List.{list_all, list_any}
+use Rattle.std.specs.List.{list_all}
 use Rattle.std.specs.Ordering.{is_eq}
 use Rattle.std.proofs.lemmas.Cmp.{nat_list_cmp_total}
 use Rattle.std.proofs.lemmas.List.Folds.{list_any-append}
@@ -23,7 +23,7 @@ use Rattle.aggregate_expand.specs.Chains.{longest_chain}
 use Rattle.config_assembly.specs.Orders.{Name, name_cmp, put_in, sorted}
 use Rattle.config_assembly.specs.ReachedResources.{Resources, resources}
 use Rattle.config_assembly.specs.Front.{front, names_of}
-use Rattle.config_assembly.specs.Reach.{aggregates, keys_with, on_chains, reach, roots}
+use Rattle.config_assembly.specs.Reach.{aggregates, keys_with, on_chains, roots}
 use Rattle.config_assembly.specs.WholeConfigs.{cluster_entry}
 use Rattle.config_assembly.proofs.OrderLemmas.{any_sorted}
 use Rattle.config_assembly.proofs.SortedLists.{sorted_same}
@@ -38,10 +38,10 @@ use Rattle.dep_manager.specs.declared.kept_assembly.Kept.{Kept}
 same_name : (a b : Name) → is_eq (name_cmp a b) ≡ true → a ≡ b
 same_name a b is = (bytes_eq-Decides a b).0 (sym (is_eq-slice_cmp a b) ∙ is)
 
-itself : (name : Name) → is_eq (name_cmp name name) ≡ true
+pub itself : (name : Name) → is_eq (name_cmp name name) ≡ true
 itself name = is_eq-slice_cmp name name ∙ (bytes_eq-Decides name name).1 refl
 
-or_later : (b more : Bool) → more ≡ true → (b || more) ≡ true
+pub or_later : (b more : Bool) → more ≡ true → (b || more) ≡ true
 or_later true more is = refl
 or_later false more is = is
 

@@ -5,5 +5,6 @@ pub mod Laws
 pub mod LeafPlaces
 pub mod UpdateOutcomes
 pub mod RenewedConfigs
+pub mod ServedCalls
 pub mod ShownEntries
 pub mod ToldPlaces

@@ -1,5 +1,5 @@
 //! The dependency manager of a channel.
-ghost use Rattle.std.specs.Prelude.{◌≡◌, ◌↔◌, ◌≤◌, ◌+◌, List, [], length, true, false, IfOk, IfSome, IsNone, IsOk, IsSome, IsSomeAnd, None, OnOk, Some, map, unwrap_or};
+ghost use Rattle.std.specs.Prelude.{◌≡◌, ◌↔◌, ◌≤◌, ◌+◌, List, [], length, true, false, IfOk, IfSome, IsNone, IsOk, IsSome, IsSomeAnd, IsTrue, None, Ok, OnOk, Some, map, unwrap_or};
 ghost use Rattle.std.specs.Option.{option_or};
 ghost use Rattle.xc_base.specs.declared.names.Kind.TheVariants.{Listener as ListenerKind};
 ghost use Rattle.std.specs.List.Sorted.{IsStrictlySortedBy};
@@ -10,7 +10,7 @@ ghost use Rattle.xds_name.specs.declared.target.Target.{Target as TargetValue};
 ghost use Rattle.aggregate_expand.specs.Chains.{longest_chain};
 ghost use Rattle.xds_cache.specs.KeptFates.{Watched, fate_of};
 ghost use Rattle.config_assembly.specs.ReachedResources.{resources};
-ghost use Rattle.config_assembly.specs.Orders.{name_cmp, sorted};
+ghost use Rattle.config_assembly.specs.Orders.{Name, name_cmp, sorted};
 ghost use Rattle.config_assembly.specs.Reach.{aggregates, missing, on_chains as chains_from, reach};
 ghost use Rattle.config_assembly.specs.WholeConfigs.{config_where};
 ghost use Rattle.config_assembly.specs.DepsViews.{seen};
@@ -18,10 +18,12 @@ ghost use Rattle.config_assembly.specs.Watching.{IsKept, IsWatching};
 ghost use Rattle.dep_manager.specs.CallsAlone.{KeepsRoots};
 ghost use Rattle.dep_manager.specs.EndpointNews.{are_endpoints};
 ghost use Rattle.dep_manager.specs.KeptAssemblies.{AreChanges, HaveChanged, IsKeptOf, IsRightBy, kept_with};
+ghost use Rattle.dep_manager.specs.ServedCalls.{AreShown, IsServing, Serves};
 ghost use Rattle.dep_manager.specs.ShownEntries.{StandAsShown, marks_if, marks_left};
 ghost use Rattle.dep_manager.specs.UpdateOutcomes.{IsOutcomeBy, outcome_of};
 ghost use Rattle.dep_manager.specs.declared.kept_assembly.Kept.{Kept as KeptValue};
 
+use crate::endpoint_news::are_endpoints;
 use crate::kept_assembly::{Kept, assembly_of, last_to_follow, renew};
 use config_assembly::watching::watch_reached;
 use config_assembly::{SharedKeys, Sight};
@@ -68,13 +70,14 @@ impl Model for Deps {
     ghost use Rattle.xc_base.specs.declared.names.Kind.TheVariants.{Listener as ListenerKind};
     ghost use Rattle.xc_keys.specs.Keys.{key_cmp};
     ghost use Rattle.dep_manager.specs.KeptAssemblies.{Managed};
+    ghost use Rattle.dep_manager.specs.ServedCalls.{IsHandedOut};
     ghost use Rattle.dep_manager.specs.ShownEntries.{StandAsShown};
 
     ghost Value = { Managed };
 
     ghost view = { λ d. record { target = d.target; reached = d.reached; last = d.last; shown = d.shown } };
 
-    ghost invariant = { λ d. (d.target.key.kind ≡ ListenerKind) × IfSome d.last (λ kept. StandAsShown kept.others d.shown kept.config) × IsStrictlySortedBy key_cmp d.reached };
+    ghost invariant = { λ d. (d.target.key.kind ≡ ListenerKind) × IfSome d.last (λ kept. StandAsShown kept.others d.shown kept.config) × IsStrictlySortedBy key_cmp d.reached × IfSome d.last (IsHandedOut d.shown) };
 }
 
 /// What an update comes to that reached these keys, which may be known to be those of the update before, and made this. Where a
@@ -172,7 +175,8 @@ impl Deps {
     ) -> Result<Outcome, Memory>
         requires endpoints { are_endpoints changed.now ≡ true }
         requires stands { StandAsShown last.others self.old.shown last.config }
-        ensures outcome { IfOk result (λ o. (entries : List AuthorityValue) (known : Watched) → IsKeptOf entries known self.old.target self.old.reached last → AreChanges known cache.now changed.now → IsOutcomeBy (resources self.old.target entries cache.now) last.references o) }
+        ensures outcome { IfOk result (λ o. (entries : List AuthorityValue) (known : Watched) (references : List Name) → IsKeptOf entries known self.old.target self.old.reached last → AreChanges known cache.now changed.now → Serves references last → IsOutcomeBy (resources self.old.target entries cache.now) references o) }
+        ensures serves { OnOk result ((entries : List AuthorityValue) (known : Watched) (references : List Name) → IsKeptOf entries known self.old.target self.old.reached last → AreChanges known cache.now changed.now → Serves references last → IsServing self.new references) }
         ensures watched { IfOk result (λ o. (entries : List AuthorityValue) (known : Watched) → IsKeptOf entries known self.old.target self.old.reached last → AreChanges known cache.now changed.now → IsWatching cache.now cache.now o.reached) }
         ensures kept { IfOk result (λ o. (entries : List AuthorityValue) (known : Watched) → IsKeptOf entries known self.old.target self.old.reached last → AreChanges known cache.now changed.now → IsRightBy entries cache.now self.new) }
         ensures held { IfOk result (λ o. (self.new.target ≡ self.old.target) × (self.new.reached ≡ o.reached)) }
@@ -188,6 +192,62 @@ impl Deps {
         Ok(outcome)
     }
 
+    /// Whether what the last update made serves calls as long as they refer to none but clusters of the configuration that was
+    /// handed out last: it is that configuration, and no cluster of it is there for calls alone. It takes no memory.
+    pub fn serves_its_host(&self) -> bool
+        ensures { IsTrue result → (entries : List AuthorityValue) (known : Watched) (references : List Name) → IsRightBy entries known self.now → AreShown self.now.shown references → IsServing self.now references }
+    {
+        match &self.last {
+            Some(kept) => kept.calls_alone.is_empty() && kept.awaited.is_empty(),
+            None => false,
+        }
+    }
+
+    /// Whether what the last update made serves calls that refer to these clusters. Each of them may be looked up, unless they
+    /// are those for which it was made.
+    pub fn serves(&self, alloc: Global, references: &List<Text>) -> Result<bool, Memory>
+        ensures { IfOk result (λ serves. (entries : List AuthorityValue) (known : Watched) → IsRightBy entries known self.now → (IsTrue serves ↔ IsServing self.now references.now)) }
+    {
+        match &self.last {
+            Some(kept) => kept.serves(alloc, references),
+            None => Ok(false),
+        }
+    }
+
+    /// Brings what the last update made up to date where none but these Endpoint keys changed and it serves calls, so that these
+    /// aren't asked what they refer to. Each of the keys is looked at once and nothing else is, what they don't touch is the same
+    /// shared value as before, and the same keys stay reached and watched. Where another key changed, or no update made
+    /// anything, nothing is answered and nothing changes.
+    pub fn update_in_place<L: Ledger>(
+        &mut self,
+        alloc: Global,
+        changed: &List<Key>,
+        cache: &Cache,
+        steps: &mut Steps<L>,
+    ) -> Result<Option<Outcome>, Memory>
+        ensures none { result ≡ Ok None → self.new ≡ self.old }
+        ensures outcome { IfOk result (λ found. IfSome found (λ o. (entries : List AuthorityValue) (known : Watched) (references : List Name) → IsRightBy entries known self.old → AreChanges known cache.now changed.now → IfSome self.old.last (Serves references) → IsOutcomeBy (resources self.old.target entries cache.now) references o)) }
+        ensures serves { IfOk result (λ found. IfSome found (λ o. (entries : List AuthorityValue) (known : Watched) (references : List Name) → IsRightBy entries known self.old → AreChanges known cache.now changed.now → IfSome self.old.last (Serves references) → IsServing self.new references)) }
+        ensures watched { IfOk result (λ found. IfSome found (λ o. (entries : List AuthorityValue) (known : Watched) → IsRightBy entries known self.old → AreChanges known cache.now changed.now → IsWatching cache.now cache.now o.reached)) }
+        ensures kept { IfOk result (λ found. IfSome found (λ o. (entries : List AuthorityValue) (known : Watched) → IsRightBy entries known self.old → AreChanges known cache.now changed.now → IsRightBy entries cache.now self.new)) }
+        ensures held { IfOk result (λ found. IfSome found (λ o. (self.new.target ≡ self.old.target) × (self.new.reached ≡ o.reached))) }
+        ensures stays { IfOk result (λ found. IfSome found (λ o. (o.stays ≡ true) × (o.reached ≡ self.old.reached))) }
+        ensures rising { IfOk result (λ found. IfSome found (λ o. IsStrictlySortedBy key_cmp o.reached)) }
+        ensures others { IfOk result (λ found. IfSome found (λ o. IfSome o.config (λ config. StandAsShown o.others self.old.shown config))) }
+        ensures shown { IfOk result (λ found. IfSome found (λ o. self.new.shown ≡ option_or o.config self.old.shown)) }
+        ensures cost { steps.new ≤ steps.old + length changed.now }
+        ensures follows { IsSome self.old.last → are_endpoints changed.now ≡ true → IfOk result IsSome }
+    {
+        if !are_endpoints(changed.as_slice()) {
+            return Ok(None);
+        }
+        let Some(last) = self.last.take() else {
+            return Ok(None);
+        };
+        let outcome = self.follow(alloc, last, changed, cache, steps)?;
+        Ok(Some(outcome))
+    }
+
     /// Makes all from nothing, and has the cache watch what is reached.
     fn begin<L: Ledger>(
         &mut self,
@@ -201,6 +261,7 @@ impl Deps {
         ensures outcome { IfOk result (λ o. IsOutcomeBy (resources self.old.target boot.now.authorities cache.old) references.now o) }
         ensures watched { IfOk result (λ o. IsWatching cache.old cache.new o.reached) }
         ensures kept { IfOk result (λ o. IsRightBy boot.now.authorities cache.new self.new) }
+        ensures serves { OnOk result (IsServing self.new references.now) }
         ensures held { IfOk result (λ o. (self.new.target ≡ self.old.target) × (self.new.reached ≡ o.reached)) }
         ensures stays { IfOk result (λ o. o.stays ≡ false) }
         ensures others { IfOk result (λ o. IfSome o.config (λ config. StandAsShown o.others self.old.shown config)) }
@@ -259,6 +320,7 @@ impl Deps {
         ensures others { IfOk result (λ o. IfSome o.config (λ config. StandAsShown o.others self.old.shown config)) }
         ensures shown { IfOk result (λ o. self.new.shown ≡ option_or o.config self.old.shown) }
         ensures kept { IfOk result (λ o. IsRightBy boot.now.authorities cache.new self.new) }
+        ensures serves { OnOk result (IsServing self.new references.now) }
         ensures still { (last : KeptValue) → self.old.last ≡ Some last → KeepsRoots (resources self.old.target boot.now.authorities cache.old) last.references references.now → changed.now ≡ [] → steps.new ≡ steps.old }
         ensures cost { (last : KeptValue) → self.old.last ≡ Some last → KeepsRoots (resources self.old.target boot.now.authorities cache.old) last.references references.now → are_endpoints changed.now ≡ true → steps.new ≤ steps.old + length changed.now }
         ensures follows { (last : KeptValue) → self.old.last ≡ Some last → KeepsRoots (resources self.old.target boot.now.authorities cache.old) last.references references.now → are_endpoints changed.now ≡ true → IfOk result (λ o. o.stays ≡ true) }

@@ -1,5 +1,5 @@
 //! What is kept from one update to the next.
-ghost use Rattle.std.specs.Prelude.{◌≡◌, ◌↔◌, ◌≤◌, ◌+◌, List, Option, [], length, map, replicate, true, Some, Err, IfOk, IfSome, IsSome, IsSomeAnd, OnOk, unwrap_or};
+ghost use Rattle.std.specs.Prelude.{◌≡◌, ◌↔◌, ◌≤◌, ◌+◌, List, Option, [], length, map, replicate, true, Some, Err, IfOk, IfSome, IsSome, IsSomeAnd, IsTrue, OnOk, unwrap_or};
 ghost use Rattle.std.specs.List.Sorted.{IsStrictlySortedBy};
 ghost use Rattle.xc_base.specs.declared.names.Kind.TheVariants.{Listener as ListenerKind};
 ghost use Rattle.xc_base.specs.declared.names.Key.{Key as KeyValue};
@@ -42,7 +42,8 @@ use xds_config::{Config, Front};
 /// What an update made.
 #[derive(Drop)]
 pub struct Kept {
-    /// The clusters to which calls referred.
+    /// The clusters to which calls referred when this was made, or when it was last asked whether it serves others. What they
+    /// refer to since has the same roots.
     pub references: List<Text>,
     /// Those of them that the front's host doesn't name.
     pub calls_alone: List<Text>,
@@ -160,13 +161,7 @@ fn kept_for(alloc: Global, last: Kept, references: &List<Text>) -> Result<Option
     if references.same(&last.references) {
         return Ok(Some(last));
     }
-    let clusters = &last.config.get().clusters;
-    if !keeps_roots(
-        alloc,
-        clusters,
-        last.calls_alone.as_slice(),
-        references.as_slice(),
-    )? {
+    if !last.keeps_roots(alloc, references.as_slice())? {
         return Ok(None);
     }
     let mut kept = last;
@@ -236,6 +231,27 @@ pub fn renew<L: Ledger>(
 // ---- what it comes to
 
 impl Kept {
+    /// Whether the roots stay where calls refer to these clusters. Each of them is looked up.
+    fn keeps_roots(&self, alloc: Global, references: &[Text]) -> Result<bool, Memory>
+        ensures { IfOk result (λ keeps. (r : Resources) (reached : List KeyValue) → IsAssembledOf r reached self.now → (IsTrue keeps ↔ KeepsRoots r self.now.references references.now)) }
+    {
+        let clusters = &self.config.get().clusters;
+        let keeps = keeps_roots(alloc, clusters, self.calls_alone.as_slice(), references)?;
+        Ok(keeps)
+    }
+
+    /// Whether the roots stay where calls refer to these clusters. Each of them may be looked up, unless they are those for
+    /// which this was made.
+    pub fn serves(&self, alloc: Global, references: &List<Text>) -> Result<bool, Memory>
+        ensures { IfOk result (λ serves. (r : Resources) (reached : List KeyValue) → IsAssembledOf r reached self.now → (IsTrue serves ↔ KeepsRoots r self.now.references references.now)) }
+    {
+        if references.same(&self.references) {
+            return Ok(true);
+        }
+        let keeps = self.keeps_roots(alloc, references.as_slice())?;
+        Ok(keeps)
+    }
+
     /// The least of the keys that are awaited.
     pub fn least(&self) -> Result<Option<Key>, Memory>
         ensures { IfOk result (λ least. least ≡ least_of self.now.awaited.keys) }

@@ -1,4 +1,4 @@
-use Rattle.std.proofs.Common.{◌≡◌, ◌∙◌, List, Option, ap, rules}
+use Rattle.std.proofs.Common.{◌≡◌, ◌∙◌, List, Option, ap}
 use Rattle.xc_base.specs.declared.names.Key.{Key}
 use Rattle.xds_config.specs.declared.config.ClusterEntry.{ClusterEntry}
 use Rattle.config_assembly.specs.DepsViews.{seen}

@@ -1,4 +1,4 @@
-use Rattle.std.proofs.Common.{◌≡◌, ◌∙◌, true, false, ap, length}
+use Rattle.std.proofs.Common.{◌∙◌, true, false, ap, length}
 use Rattle.std.proofs.lemmas.List.{length-replicate, length-set}
 use Rattle.place_marks.specs.Marks.{marked_on, marks_of}
 use Rattle.dep_manager.proofs.MarkSetLemmas.{free_begin, free_first, free_next, marks_more}

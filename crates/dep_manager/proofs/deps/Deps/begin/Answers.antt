@@ -8,6 +8,7 @@ use Rattle.config_assembly.specs.Watching.{IsKept, IsWatching}
 use Rattle.dep_manager.specs.KeptAssemblies.{IsAssembledOf, kept_with}
 use Rattle.dep_manager.specs.UpdateOutcomes.{IsOutcomeBy, outcome_of}
 use Rattle.dep_manager.proofs.KeptLemmas.{kept_by, outcome_by, right_by}
+use Rattle.dep_manager.proofs.ServedLemmas.{serves_own, serving_with}
 use Rattle.dep_manager.proofs.SortedKeys.{reach_rises}
 use Rattle.dep_manager.proofs.deps.Deps.begin.Goals as goal
 
@@ -47,4 +48,10 @@ pub invariant_of-self : goal.invariant_of-self
 invariant_of-self g c =
     let r : Resources = resources c.args.self.now.target c.args.boot.now.authorities c.args.cache.now in
     let is : IsAssembledOf r c.in_ok-made.made.reached c.in_ok-made.made.kept = subst (λ d. IsAssembledOf (resources d.target c.args.boot.now.authorities c.args.cache.now) c.in_ok-made.made.reached c.in_ok-made.made.kept) c.self.view_is c.in_ok-made.ensures.assembled in
-    (c.self-2.invariant.0, c.self-2.invariant.1, subst (IsStrictlySortedBy key_cmp) (sym (c.in_ok-reached.ensures ∙ is.reached_are)) (reach_rises r c.in_ok-made.made.kept.references))
+    (c.self-2.invariant.0, c.self-2.invariant.1, subst (IsStrictlySortedBy key_cmp) (sym (c.in_ok-reached.ensures ∙ is.reached_are)) (reach_rises r c.in_ok-made.made.kept.references), c.self-2.invariant.3)
+
+pub returns-clause-serves : goal.returns-clause-serves
+returns-clause-serves g c =
+    serving_with c.self-2.inside.last c.in_ok-made.made.kept c.args.references.now
+    (subst (λ d. IsSomeAnd d.last (λ kept. kept ≡ kept_with c.in_ok-made.made.kept kept.others)) (sym c.self-2.view_is) c.in_ok-outcome.ensures.kept)
+    (serves_own c.args.references.now c.in_ok-made.made.kept (sym (c.in_ok-made.ensures.references ∙ c.as_slice.ensures)))

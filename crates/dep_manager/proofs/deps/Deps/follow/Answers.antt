@@ -5,7 +5,8 @@ use Rattle.config_assembly.specs.Watching.{IsWatching}
 use Rattle.dep_manager.specs.EndpointNews.{are_endpoints}
 use Rattle.dep_manager.specs.KeptAssemblies.{AreChanges, IsKeptOf}
 use Rattle.dep_manager.specs.UpdateOutcomes.{IsOutcomeBy, outcome_of}
-use Rattle.dep_manager.proofs.KeptLemmas.{outcome_by, right_by, watching_still}
+use Rattle.dep_manager.proofs.KeptLemmas.{right_by, watching_still}
+use Rattle.dep_manager.proofs.ServedLemmas.{outcome_on, serves_on, serving_with}
 use Rattle.dep_manager.proofs.deps.Deps.follow.Goals as goal
 
 pub renew-requires : goal.renew-requires
@@ -15,14 +16,22 @@ pub keep-requires : goal.keep-requires
 keep-requires g c = c.in_ok-kept.ensures.stands c.args.self.now.shown c.requires.stands
 
 pub returns-clause-outcome : goal.returns-clause-outcome
-returns-clause-outcome g c entries known is changes =
+returns-clause-outcome g c entries known references is changes serves =
     let r : Resources = resources c.args.self.now.target entries c.args.cache.now in
     let listener : c.args.self.now.target.key.kind ≡ Kind.Listener = subst (λ d. d.target.key.kind ≡ Kind.Listener) c.self.view_is c.self.invariant.0 in
     let now : IsKeptOf entries c.args.cache.now c.args.self.now.target c.args.self.now.reached c.in_ok-kept.kept =
     c.in_ok-kept.ensures.kept entries known c.args.self.now.target c.args.self.now.reached listener is (subst (AreChanges known c.args.cache.now) (sym c.as_slice.ensures) changes) in
     let keys : c.in_ok-reached.reached ≡ c.args.self.now.reached = c.in_ok-reached.ensures ∙ ap (λ d. d.reached) c.self.view_is in
-    subst (IsOutcomeBy r c.args.last.references) (sym (c.in_ok-outcome.ensures.outcome ∙ ap (λ ks. outcome_of ks true c.in_ok-kept.kept c.in_ok-outcome.outcome.others) keys))
-    (subst (λ names. IsOutcomeBy r names (outcome_of c.args.self.now.reached true c.in_ok-kept.kept c.in_ok-outcome.outcome.others)) c.in_ok-kept.ensures.references (outcome_by r c.args.self.now.reached c.in_ok-kept.kept now.assembled true c.in_ok-outcome.outcome.others now.lawful))
+    subst (IsOutcomeBy r references) (sym (c.in_ok-outcome.ensures.outcome ∙ ap (λ ks. outcome_of ks true c.in_ok-kept.kept c.in_ok-outcome.outcome.others) keys))
+    (outcome_on entries known c.args.cache.now c.args.self.now.target c.args.self.now.reached c.args.changed.now c.args.last c.in_ok-kept.kept references listener c.requires.endpoints is changes now c.in_ok-kept.ensures.references serves true c.in_ok-outcome.outcome.others)
+
+pub returns-clause-serves : goal.returns-clause-serves
+returns-clause-serves g c entries known references is changes serves =
+    let listener : c.args.self.now.target.key.kind ≡ Kind.Listener = subst (λ d. d.target.key.kind ≡ Kind.Listener) c.self.view_is c.self.invariant.0 in
+    let now : IsKeptOf entries c.args.cache.now c.args.self.now.target c.args.self.now.reached c.in_ok-kept.kept =
+    c.in_ok-kept.ensures.kept entries known c.args.self.now.target c.args.self.now.reached listener is (subst (AreChanges known c.args.cache.now) (sym c.as_slice.ensures) changes) in
+    serving_with c.keep.new.self.last c.in_ok-kept.kept references c.in_ok-outcome.ensures.kept
+    (serves_on entries known c.args.cache.now c.args.self.now.target c.args.self.now.reached c.args.changed.now c.args.last c.in_ok-kept.kept references listener c.requires.endpoints is changes now c.in_ok-kept.ensures.references serves)
 
 pub returns-clause-watched : goal.returns-clause-watched
 returns-clause-watched g c entries known is changes =

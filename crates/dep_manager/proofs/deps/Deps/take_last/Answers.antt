@@ -1,8 +1,8 @@
 use Rattle.std.proofs.Common.{◌≡◌, Option, ap, ap₂, ◌∙◌, subst}
-use Rattle.std.specs.Prelude.{IfSome, IsSomeAnd}
+use Rattle.std.specs.Prelude.{IfSome}
 use Rattle.xc_base.specs.declared.names.Kind.{Kind}
 use Rattle.config_assembly.specs.ReachedResources.{resources}
-use Rattle.dep_manager.specs.KeptAssemblies.{Managed, kept_for}
+use Rattle.dep_manager.specs.KeptAssemblies.{Managed}
 use Rattle.dep_manager.specs.declared.kept_assembly.Kept.{Kept}
 use Rattle.dep_manager.specs.ShownEntries.{StandAsShown}
 use Rattle.dep_manager.proofs.RenewLemmas.{kept_roots}

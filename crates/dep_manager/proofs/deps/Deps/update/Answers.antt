@@ -12,6 +12,7 @@ use Rattle.dep_manager.specs.ShownEntries.{StandAsShown}
 use Rattle.dep_manager.specs.UpdateOutcomes.{IsOutcomeBy}
 use Rattle.dep_manager.proofs.KeptLemmas.{none_counted}
 use Rattle.dep_manager.proofs.RootLemmas.{kept_at, none_found}
+use Rattle.dep_manager.proofs.ServedLemmas.{serves_own}
 use Rattle.dep_manager.proofs.SortedKeys.{reach_rises}
 use Rattle.dep_manager.proofs.deps.Deps.update.Goals as goal
 
@@ -29,36 +30,36 @@ pub returns-in_ok-outcome-in-Some-clause-reached : goal.returns-in_ok-outcome-in
 returns-in_ok-outcome-in-Some-clause-reached g c =
     let (known, is, changes) = kept_at c.args.boot.now.authorities c.args.self.now c.take_last.new.self c.args.cache.now c.args.changed.now c.in_ok-found.found c.in-Some.last c.in-Some.is c.take_last.ensures.rest c.in_ok-found.ensures.right c.requires.changed in
     (subst (λ d. IsOutcomeBy (resources d.target c.args.boot.now.authorities c.args.cache.now) c.args.references.now c.in_ok-outcome-in-Some.outcome) c.take_last.ensures.rest
-    (subst (λ names. IsOutcomeBy (resources c.take_last.new.self.target c.args.boot.now.authorities c.args.cache.now) names c.in_ok-outcome-in-Some.outcome) (sym (subst (λ o. IfSome o (λ kept. c.args.references.now ≡ kept.references)) c.in-Some.is c.in_ok-found.ensures.references))
-    (c.in_ok-outcome-in-Some.ensures.outcome c.args.boot.now.authorities known is changes))).reached_are
+    (c.in_ok-outcome-in-Some.ensures.outcome c.args.boot.now.authorities known c.args.references.now is changes
+    (serves_own c.args.references.now c.in-Some.last (subst (λ o. IfSome o (λ kept. c.args.references.now ≡ kept.references)) c.in-Some.is c.in_ok-found.ensures.references)))).reached_are
 
 pub returns-in_ok-outcome-in-Some-clause-missing : goal.returns-in_ok-outcome-in-Some-clause-missing
 returns-in_ok-outcome-in-Some-clause-missing g c =
     let (known, is, changes) = kept_at c.args.boot.now.authorities c.args.self.now c.take_last.new.self c.args.cache.now c.args.changed.now c.in_ok-found.found c.in-Some.last c.in-Some.is c.take_last.ensures.rest c.in_ok-found.ensures.right c.requires.changed in
     (subst (λ d. IsOutcomeBy (resources d.target c.args.boot.now.authorities c.args.cache.now) c.args.references.now c.in_ok-outcome-in-Some.outcome) c.take_last.ensures.rest
-    (subst (λ names. IsOutcomeBy (resources c.take_last.new.self.target c.args.boot.now.authorities c.args.cache.now) names c.in_ok-outcome-in-Some.outcome) (sym (subst (λ o. IfSome o (λ kept. c.args.references.now ≡ kept.references)) c.in-Some.is c.in_ok-found.ensures.references))
-    (c.in_ok-outcome-in-Some.ensures.outcome c.args.boot.now.authorities known is changes))).missing_is
+    (c.in_ok-outcome-in-Some.ensures.outcome c.args.boot.now.authorities known c.args.references.now is changes
+    (serves_own c.args.references.now c.in-Some.last (subst (λ o. IfSome o (λ kept. c.args.references.now ≡ kept.references)) c.in-Some.is c.in_ok-found.ensures.references)))).missing_is
 
 pub returns-in_ok-outcome-in-Some-clause-config : goal.returns-in_ok-outcome-in-Some-clause-config
 returns-in_ok-outcome-in-Some-clause-config g c =
     let (known, is, changes) = kept_at c.args.boot.now.authorities c.args.self.now c.take_last.new.self c.args.cache.now c.args.changed.now c.in_ok-found.found c.in-Some.last c.in-Some.is c.take_last.ensures.rest c.in_ok-found.ensures.right c.requires.changed in
     (subst (λ d. IsOutcomeBy (resources d.target c.args.boot.now.authorities c.args.cache.now) c.args.references.now c.in_ok-outcome-in-Some.outcome) c.take_last.ensures.rest
-    (subst (λ names. IsOutcomeBy (resources c.take_last.new.self.target c.args.boot.now.authorities c.args.cache.now) names c.in_ok-outcome-in-Some.outcome) (sym (subst (λ o. IfSome o (λ kept. c.args.references.now ≡ kept.references)) c.in-Some.is c.in_ok-found.ensures.references))
-    (c.in_ok-outcome-in-Some.ensures.outcome c.args.boot.now.authorities known is changes))).config_is
+    (c.in_ok-outcome-in-Some.ensures.outcome c.args.boot.now.authorities known c.args.references.now is changes
+    (serves_own c.args.references.now c.in-Some.last (subst (λ o. IfSome o (λ kept. c.args.references.now ≡ kept.references)) c.in-Some.is c.in_ok-found.ensures.references)))).config_is
 
 pub returns-in_ok-outcome-in-Some-clause-whole : goal.returns-in_ok-outcome-in-Some-clause-whole
 returns-in_ok-outcome-in-Some-clause-whole g c =
     let (known, is, changes) = kept_at c.args.boot.now.authorities c.args.self.now c.take_last.new.self c.args.cache.now c.args.changed.now c.in_ok-found.found c.in-Some.last c.in-Some.is c.take_last.ensures.rest c.in_ok-found.ensures.right c.requires.changed in
     (subst (λ d. IsOutcomeBy (resources d.target c.args.boot.now.authorities c.args.cache.now) c.args.references.now c.in_ok-outcome-in-Some.outcome) c.take_last.ensures.rest
-    (subst (λ names. IsOutcomeBy (resources c.take_last.new.self.target c.args.boot.now.authorities c.args.cache.now) names c.in_ok-outcome-in-Some.outcome) (sym (subst (λ o. IfSome o (λ kept. c.args.references.now ≡ kept.references)) c.in-Some.is c.in_ok-found.ensures.references))
-    (c.in_ok-outcome-in-Some.ensures.outcome c.args.boot.now.authorities known is changes))).whole
+    (c.in_ok-outcome-in-Some.ensures.outcome c.args.boot.now.authorities known c.args.references.now is changes
+    (serves_own c.args.references.now c.in-Some.last (subst (λ o. IfSome o (λ kept. c.args.references.now ≡ kept.references)) c.in-Some.is c.in_ok-found.ensures.references)))).whole
 
 pub returns-in_ok-outcome-in-Some-clause-lawful : goal.returns-in_ok-outcome-in-Some-clause-lawful
 returns-in_ok-outcome-in-Some-clause-lawful g c =
     let (known, is, changes) = kept_at c.args.boot.now.authorities c.args.self.now c.take_last.new.self c.args.cache.now c.args.changed.now c.in_ok-found.found c.in-Some.last c.in-Some.is c.take_last.ensures.rest c.in_ok-found.ensures.right c.requires.changed in
     (subst (λ d. IsOutcomeBy (resources d.target c.args.boot.now.authorities c.args.cache.now) c.args.references.now c.in_ok-outcome-in-Some.outcome) c.take_last.ensures.rest
-    (subst (λ names. IsOutcomeBy (resources c.take_last.new.self.target c.args.boot.now.authorities c.args.cache.now) names c.in_ok-outcome-in-Some.outcome) (sym (subst (λ o. IfSome o (λ kept. c.args.references.now ≡ kept.references)) c.in-Some.is c.in_ok-found.ensures.references))
-    (c.in_ok-outcome-in-Some.ensures.outcome c.args.boot.now.authorities known is changes))).lawful
+    (c.in_ok-outcome-in-Some.ensures.outcome c.args.boot.now.authorities known c.args.references.now is changes
+    (serves_own c.args.references.now c.in-Some.last (subst (λ o. IfSome o (λ kept. c.args.references.now ≡ kept.references)) c.in-Some.is c.in_ok-found.ensures.references)))).lawful
 
 pub returns-in_ok-outcome-in-Some-clause-watched : goal.returns-in_ok-outcome-in-Some-clause-watched
 returns-in_ok-outcome-in-Some-clause-watched g c =
@@ -69,6 +70,12 @@ pub returns-in_ok-outcome-in-Some-clause-kept : goal.returns-in_ok-outcome-in-So
 returns-in_ok-outcome-in-Some-clause-kept g c =
     let (known, is, changes) = kept_at c.args.boot.now.authorities c.args.self.now c.take_last.new.self c.args.cache.now c.args.changed.now c.in_ok-found.found c.in-Some.last c.in-Some.is c.take_last.ensures.rest c.in_ok-found.ensures.right c.requires.changed in
     c.in_ok-outcome-in-Some.ensures.kept c.args.boot.now.authorities known is changes
+
+pub returns-in_ok-outcome-in-Some-clause-serves : goal.returns-in_ok-outcome-in-Some-clause-serves
+returns-in_ok-outcome-in-Some-clause-serves g c =
+    let (known, is, changes) = kept_at c.args.boot.now.authorities c.args.self.now c.take_last.new.self c.args.cache.now c.args.changed.now c.in_ok-found.found c.in-Some.last c.in-Some.is c.take_last.ensures.rest c.in_ok-found.ensures.right c.requires.changed in
+    c.in_ok-outcome-in-Some.ensures.serves c.args.boot.now.authorities known c.args.references.now is changes
+    (serves_own c.args.references.now c.in-Some.last (subst (λ o. IfSome o (λ kept. c.args.references.now ≡ kept.references)) c.in-Some.is c.in_ok-found.ensures.references))
 
 pub returns-in_ok-outcome-in-Some-clause-held : goal.returns-in_ok-outcome-in-Some-clause-held
 returns-in_ok-outcome-in-Some-clause-held g c = (c.in_ok-outcome-in-Some.ensures.held.0 ∙ ap (λ d. d.target) c.take_last.ensures.rest, c.in_ok-outcome-in-Some.ensures.held.1)
