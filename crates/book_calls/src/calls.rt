@@ -222,14 +222,6 @@ impl Calls {
         }
     }
 
-    /// The clusters that some call refers to, in the order of their bytes, each once. It fails for want of memory alone.
-    pub fn referred(&self) -> Result<List<Text>, Memory>
-        ensures { IfOk result (λ names. (archive : Shelves) (s : Setting) (past : List EntryValue) → Right s past → AreCallsAt archive (pages s past) self.now → names ≡ references (pages s past)) }
-    {
-        let names = self.refs.retained()?;
-        Ok(names)
-    }
-
     /// Whether calls may refer to other clusters than at the driver's last entry. They don't where no pin is open and none was
     /// open then, and each cluster that a call began to hold or left since is held by other calls, too. It takes no memory.
     pub fn may_differ(&self) -> bool

@@ -1,6 +1,8 @@
 pub mod ChangeLemmas
 pub mod MarkLemmas
+pub mod ServedLemmas
 pub mod WatcherLemmas
+pub mod InPlaceLemmas
 pub mod RenewalLemmas
 pub mod SubscribedLemmas
 pub mod PublishedLemmas

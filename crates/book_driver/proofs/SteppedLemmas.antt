@@ -23,7 +23,11 @@ use Rattle.book_driver.specs.declared.subscriptions.Subscriptions.{Subscriptions
 use Rattle.book_driver.specs.WatcherKept.{assembly_with}
 use Rattle.book_driver.specs.Subscribed.{IsAnsweredAt}
 use Rattle.book_driver.specs.ShownTrees.{AreConfiguredAt, AreConfiguredWith, IsPublication, IsShownBy}
-use Rattle.book_driver.specs.DriverKept.{CallersLeaveDriver, IsStepAt, page_in, reply_in}
+use Rattle.book_driver.specs.DriverKept.{CallersLeaveDriver, IsDueAt, IsStepAt, page_in, reply_in}
+use Rattle.book_driver.specs.ReferredClusters.{AreReferredAt}
+use Rattle.book_driver.specs.declared.call_refs.CallRefs.{CallRefs}
+use Rattle.book_driver.specs.declared.channel_driver.Driver.{Driver}
+use Rattle.book_driver.proofs.ServedLemmas.{all_shown}
 use Rattle.book_driver.proofs.SubscribedLemmas.{callers_leave_subscribed}
 
 -- what an answer and what is shown come to
@@ -89,6 +93,13 @@ stepped_at s past event prepared r v published t before same made_is is shown_be
             shown_is = made_is ∙ sym config_before;
           };
     }
+
+-- what is told of calls, where the configuration that was handed out last is the one that stands
+pub referred_at : (s : Setting) (past : List Entry) (d : Driver) (calls : CallRefs) (latest : Option ℕ) → IsDueAt s past calls latest d → AreReferredAt (pages s past) d.subscriptions.watcher.deps.shown calls
+referred_at s past d calls latest due = record {
+  called = due.called;
+  shown_are = all_shown s past d.subscriptions.watcher.deps.shown (due.at.shown_is ∙ due.at.configured.config_is) due.shows due.latest_has;
+}
 
 -- ---- a caller's entry
 

@@ -1,19 +1,17 @@
 -- What a caller of a step can know of what is kept.
-use Rattle.std.proofs.Common.{◌≡◌, ℕ, Bool, true, false, ◌&&◌, ◌||◌, not, List, [], ◌∷◌, ◌++◌, length, Option, Some, None, refl, sym, ap, ◌∙◌, subst, IsTrue, is_some}
+use Rattle.std.proofs.Common.{◌≡◌, ℕ, Bool, true, false, ◌&&◌, ◌||◌, not, List, [], ◌∷◌, ◌++◌, length, refl, sym, ap, ◌∙◌, subst, IsTrue}
 use Rattle.std.specs.List.{list_all}
 use Rattle.std.proofs.lemmas.List.FromFn.{length-map-range_with_len}
 use Rattle.call_journal.specs.declared.entry.What.{What}
 use Rattle.call_journal.specs.declared.entry.Entry.{Entry}
-use Rattle.config_assembly.specs.Orders.{Name}
 use Rattle.book_trees.specs.xds_history.Setting.{Setting}
 use Rattle.book_trees.specs.xds_history.References.{references, references_seen}
 use Rattle.book_trees.specs.xds_history.Pages.{pages}
 use Rattle.book_trees.specs.xds_history.HistoryLaws.{is_call}
 use Rattle.book_trees.proofs.xds_history.LawProofs.{entry_of}
 use Rattle.driver_step.specs.book_streams.StreamsKept.{place_of, state_of}
-use Rattle.book_driver.specs.declared.subscriptions.Settled.{Settled}
-use Rattle.book_driver.specs.Subscribed.{has_driven, names_kept, names_with}
-use Rattle.book_driver.specs.DriverKept.{CanRepeat, DriversHaveHistory, IsDriverAt, StillRepeats, StreamsAreAll}
+use Rattle.book_driver.specs.WatcherKept.{has_driven}
+use Rattle.book_driver.specs.DriverKept.{DriversHaveHistory, IsDriverAt, StillRepeats, StreamsAreAll}
 
 pub drivers_have_history : DriversHaveHistory
 drivers_have_history s past d at = record { past = past; at = subst (λ t. IsDriverAt t past d) at.subscribed.watcher_is.setting_is at }
@@ -55,11 +53,9 @@ was_driven : (between : List Entry) (before : Entry) (earlier : List Entry) → 
 was_driven [] before earlier driver = was_first (not (is_call before.what)) (has_driven earlier) driver
 was_driven (e ∷ between) before earlier driver = or_more (not (is_call e.what)) (has_driven (between ++ before ∷ earlier)) (was_driven between before earlier driver)
 
-repeats_by : (names : Option (List Name)) (last : Option Settled) → is_some last ≡ true → names_with names last ≡ names_kept last → CanRepeat names last
-repeats_by names None is same = absurd (cc is)
-repeats_by names (Some kept) is same = record { kept = kept; repeats = record { quiet = refl; kept_is = refl; same = same } }
-
 pub still_repeats : StillRepeats
-still_repeats s between before earlier names d at calls driver refs told =
-    repeats_by names d.subscriptions.last (at.subscribed.driven_is ∙ was_driven between before earlier driver)
-    (told ∙ refs ∙ sym (seen_before s between before earlier calls driver) ∙ sym at.subscribed.references_are)
+still_repeats s between before earlier event report calls driver refs = record {
+  report = report;
+  driven = was_driven between before earlier driver;
+  same = refs ∙ sym (seen_before s between before earlier calls driver);
+}

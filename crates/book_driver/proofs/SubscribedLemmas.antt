@@ -10,10 +10,11 @@ use Rattle.call_journal.specs.declared.reply.CallerReply.{CallerReply}
 use Rattle.call_journal.specs.declared.reply.DriverReply.{DriverReply}
 use Rattle.call_journal.specs.declared.entry.Entry.{Entry}
 use Rattle.config_assembly.specs.Orders.{Name}
+use Rattle.dep_manager.specs.ServedCalls.{IsServing}
 use Rattle.book_trees.specs.xds_history.Setting.{Setting}
 use Rattle.book_trees.specs.xds_history.declared.page.Page.{Page}
 use Rattle.book_trees.specs.xds_history.Page.{watched_now}
-use Rattle.book_trees.specs.xds_history.References.{references}
+use Rattle.book_trees.specs.xds_history.References.{references, references_seen}
 use Rattle.book_trees.specs.xds_history.Pages.{called, driven, pages}
 use Rattle.book_trees.specs.xds_history.HistoryLaws.{is_report}
 use Rattle.driver_step.specs.book_fates.FatesKept.{keys_in}
@@ -28,14 +29,15 @@ use Rattle.book_driver.specs.declared.subscriptions.Subscriptions.{Subscriptions
 use Rattle.book_driver.specs.declared.watcher.Watcher.{Watcher}
 use Rattle.book_driver.specs.WatcherKept.{IsWatcherAt, assembly_with}
 use Rattle.book_driver.specs.Renewals.{IsRenewalAt, IsToldBy, reply_by}
-use Rattle.book_driver.specs.Subscribed.{AreSubscribedAt, CallersLeaveSubscribed, IsAnsweredAt, names_with}
-use Rattle.book_driver.specs.Courses.{IsRepeat, quiet_answer}
+use Rattle.book_driver.specs.Subscribed.{AreSubscribedAt, CallersLeaveSubscribed, IsAnsweredAt}
+use Rattle.book_driver.specs.Courses.{IsRepeated, quiet_answer}
+use Rattle.book_driver.proofs.ServedLemmas.{if_serving, is_made, settled_served}
 
 -- ---- what is reached anew
 
-pub renewal_answers : (s : Setting) (past : List Entry) (event : DriverEvent) (prepared : Option Prepared) (r : Renewal) (w : Watcher) (names : List Name) → IsRenewalAt s past event prepared r w → names ≡ references (pages s past) →
-    IsAnsweredAt s past event prepared r (record { watcher = w; last = Some record { references = names; missing = r.missing } })
-renewal_answers s past event prepared r w names is same = record {
+pub renewal_answers : (s : Setting) (past : List Entry) (event : DriverEvent) (prepared : Option Prepared) (r : Renewal) (w : Watcher) → IsRenewalAt s past event prepared r w →
+    IsAnsweredAt s past event prepared r (record { watcher = w; last = Some record { missing = r.missing } })
+renewal_answers s past event prepared r w is = record {
   told = is.told;
   reached = is.reached;
   assembly = is.assembly;
@@ -43,9 +45,7 @@ renewal_answers s past event prepared r w names is same = record {
   kept = λ line number.
       record {
         watcher_is = is.kept line number;
-        references_are = same;
-        settled = subst (λ ns. IsSettledAt s (driven 0 line event (reply_by r number) ∷ past) (pages s (driven 0 line event (reply_by r number) ∷ past)) ns r.missing) (sym same)
-            (drivers_settle_keys s past line event (reply_by r number) (assembly_with s past is.reached r.missing r.made) is.assembly is.sent_are);
+        settled = drivers_settle_keys s past line event (reply_by r number) (assembly_with s past is.reached r.missing r.made) is.assembly is.sent_are;
         driven_is = refl;
       };
 }
@@ -62,8 +62,8 @@ quiet_told s past (DriverEvent.Endpoint address state) prepared is = record { ve
 quiet_told s past DriverEvent.Sweep prepared is = record { verdict_is = refl; refused_are = refl; texts_are = refl }
 
 watched_still : (s : Setting) (past : List Entry) (line : ℕ) (event : DriverEvent) (reply : DriverReply) (least : Option Key) (w : Watcher) → IsTrue (is_report event) → IsSettledAt s past (pages s past) (references (pages s past)) least → reply.sent ≡ [] → IsWatcherAt s past w →
-    IsWatcherAt s (driven 0 line event reply ∷ past) w
-watched_still s past line event reply least w is settled none at = record {
+    IsServing w.deps (references (pages s past)) → IsWatcherAt s (driven 0 line event reply ∷ past) w
+watched_still s past line event reply least w is settled none at serving = record {
   setting_is = at.setting_is;
   streams_are = at.streams_are ∙ sym (reports_leave_streams s past line event reply least is settled none);
   fates_are = reports_leave_fates s past line event reply least w.fates is settled none at.fates_are;
@@ -71,11 +71,13 @@ watched_still s past line event reply least w is settled none at = record {
   told_are = at.told_are;
   rising = at.rising;
   right = at.right;
+  serves = if_serving w.deps (references (pages s past)) serving;
+  made = λ driven. is_made w.deps (references (pages s past)) serving;
 }
 
 still : (s : Setting) (past : List Entry) (event : DriverEvent) (prepared : Option Prepared) (v : Subscriptions) (kept : Settled) (marks : List Bool) → AreSubscribedAt s past v → IsTrue (is_report event) → IsSettledAt s past (pages s past) (references (pages s past)) kept.missing →
-    kept.references ≡ references (pages s past) → IsAnsweredAt s past event prepared (quiet_answer kept.missing marks) (record { watcher = v.watcher; last = Some kept })
-still s past event prepared v kept marks at is settled same =
+    IsServing v.watcher.deps (references (pages s past)) → IsAnsweredAt s past event prepared (quiet_answer kept.missing marks) (record { watcher = v.watcher; last = Some kept })
+still s past event prepared v kept marks at is settled serving =
     let ps : List Page = pages s past in
     let r : Renewal = quiet_answer kept.missing marks in
     let no : ChangesNoKey s past ps event (reply_by r None) kept.missing = reports_change_no_key s past ps event (reply_by r None) kept.missing is settled in record {
@@ -85,27 +87,25 @@ still s past event prepared v kept marks at is settled same =
       sent_are = sym no.sent;
       kept = λ line number.
           record {
-            watcher_is = watched_still s past line event (reply_by r number) kept.missing v.watcher is settled refl at.watcher_is;
-            references_are = same;
-            settled = subst (λ ns. IsSettledAt s (driven 0 line event (reply_by r number) ∷ past) (pages s (driven 0 line event (reply_by r number) ∷ past)) ns kept.missing) (sym same)
-                (drivers_settle_keys s past line event (reply_by r number) (as_settled ps kept.missing) no.assembly (sym no.sent));
+            watcher_is = watched_still s past line event (reply_by r number) kept.missing v.watcher is settled refl at.watcher_is serving;
+            settled = drivers_settle_keys s past line event (reply_by r number) (as_settled ps kept.missing) no.assembly (sym no.sent);
             driven_is = refl;
           };
     }
 
-pub quiet_answer_is : (s : Setting) (past : List Entry) (event : DriverEvent) (prepared : Option Prepared) (names : Option (List Name)) (v : Subscriptions) (kept : Settled) (marks : List Bool) → AreSubscribedAt s past v → names_with names v.last ≡ references (pages s past) →
-    IsRepeat (is_report event) names v.last kept → IsAnsweredAt s past event prepared (quiet_answer kept.missing marks) (record { watcher = v.watcher; last = Some kept })
-quiet_answer_is s past event prepared names v kept marks at refers by =
-    let same : kept.references ≡ references (pages s past) = sym by.same ∙ refers in
-    let settled : IsSettledAt s past (pages s past) kept.references kept.missing = subst (λ o. IfSome o (λ l. IsSettledAt s past (pages s past) l.references l.missing)) by.kept_is at.settled in
-    still s past event prepared v kept marks at by.quiet (subst (λ ns. IsSettledAt s past (pages s past) ns kept.missing) same settled) same
+pub quiet_answer_is : (s : Setting) (past : List Entry) (event : DriverEvent) (prepared : Option Prepared) (v : Subscriptions) (kept : Settled) (marks : List Bool) → AreSubscribedAt s past v → IsRepeated s past event v kept →
+    IsAnsweredAt s past event prepared (quiet_answer kept.missing marks) (record { watcher = v.watcher; last = Some kept })
+quiet_answer_is s past event prepared v kept marks at by =
+    let before : IsSettledAt s past (pages s past) (references_seen (pages s past)) kept.missing = subst (λ o. IfSome o (λ l. IsSettledAt s past (pages s past) (references_seen (pages s past)) l.missing)) by.last_is at.settled in
+    still s past event prepared v kept marks at by.report
+    (settled_served s past v.watcher (references (pages s past)) (references_seen (pages s past)) kept.missing at.watcher_is.setting_is at.watcher_is.fates_are.knows at.watcher_is.right by.serves at.watcher_is.serves before) by.serves
 
 -- ---- a caller's entry
 
-settled_on : (s : Setting) (past : List Entry) (actor line : ℕ) (event : CallerEvent) (reply : CallerReply) (last : Option Settled) → IfSome last (λ l. IsSettledAt s past (pages s past) l.references l.missing) →
-    IfSome last (λ l. IsSettledAt s (called actor line event reply ∷ past) (pages s (called actor line event reply ∷ past)) l.references l.missing)
-settled_on s past actor line event reply None is = tt
-settled_on s past actor line event reply (Some l) is = callers_leave_settled s past actor line event reply l.references l.missing is
+settled_on : (s : Setting) (past : List Entry) (actor line : ℕ) (event : CallerEvent) (reply : CallerReply) (names : List Name) (last : Option Settled) → IfSome last (λ l. IsSettledAt s past (pages s past) names l.missing) →
+    IfSome last (λ l. IsSettledAt s (called actor line event reply ∷ past) (pages s (called actor line event reply ∷ past)) names l.missing)
+settled_on s past actor line event reply names None is = tt
+settled_on s past actor line event reply names (Some l) is = callers_leave_settled s past actor line event reply names l.missing is
 
 pub callers_leave_subscribed : CallersLeaveSubscribed
 callers_leave_subscribed s past actor line event reply v at = record {
@@ -117,8 +117,9 @@ callers_leave_subscribed s past actor line event reply v at = record {
     told_are = at.watcher_is.told_are;
     rising = at.watcher_is.rising;
     right = at.watcher_is.right;
+    serves = at.watcher_is.serves;
+    made = at.watcher_is.made;
   };
-  references_are = at.references_are;
-  settled = settled_on s past actor line event reply v.last at.settled;
+  settled = settled_on s past actor line event reply (references_seen (pages s past)) v.last at.settled;
   driven_is = at.driven_is;
 }

@@ -16,13 +16,14 @@ use Rattle.call_journal.specs.declared.entry.Entry.{Entry}
 use Rattle.config_assembly.specs.Orders.{Name}
 use Rattle.config_assembly.specs.Watching.{IsWatching, has_key}
 use Rattle.dep_manager.specs.KeptAssemblies.{IsRightBy}
+use Rattle.dep_manager.specs.ServedCalls.{IsServing, Serves}
 use Rattle.book_trees.specs.xds_history.Setting.{Setting, setting_of}
 use Rattle.book_trees.specs.xds_history.Responses.{Came}
 use Rattle.book_trees.specs.xds_history.declared.page.Page.{Page}
 use Rattle.xc_base.specs.declared.names.Authority.{Authority}
 use Rattle.book_trees.specs.xds_history.declared.page.Watched.{Watched}
 use Rattle.book_trees.specs.xds_history.Pages.{came, driven, page_of, pages, present_after}
-use Rattle.book_trees.specs.xds_history.References.{references}
+use Rattle.book_trees.specs.xds_history.References.{references, references_seen}
 use Rattle.book_trees.specs.xds_history.Requests.{requests}
 use Rattle.book_trees.specs.xds_history.Fates.{marked, watch, with_mark}
 use Rattle.driver_step.specs.book_streams.StreamsKept.{states_of, states_with, watched_keys}
@@ -42,19 +43,21 @@ use Rattle.driver_step.specs.DriverSteps.{Assembly, IsAssembly, IsMadeOf, made_o
 use Rattle.book_trees.specs.xds_history.Page.{config_now, watched_now}
 use Rattle.driver_step.proofs.AnswerSteps.{caches_assemble, page_by_is}
 use Rattle.book_driver.specs.declared.watcher.Watcher.{Watcher}
-use Rattle.book_driver.specs.WatcherKept.{IsHeardBy, IsReachedBy, IsTimely, IsWatcherAt, assembly_with, setting_by}
+use Rattle.book_driver.specs.WatcherKept.{IsHeardBy, IsReachedBy, IsWatcherAt, assembly_with, setting_by}
+use Rattle.book_driver.proofs.ServedLemmas.{if_serving, is_made}
 
 -- ---- what is watched after an entry
 
 -- once something came
-pub heard_by : (s : Setting) (past : List Entry) (c : Came) (now : Time) (old new : Watcher) → IsWatcherAt s past old → setting_by new ≡ setting_by old → new.deps.reached ≡ old.deps.reached → new.streams.states ≡ states_with s c past → new.streams.told ≡ old.streams.told →
+pub heard_by : (s : Setting) (past : List Entry) (c : Came) (now : Time) (old new : Watcher) → IsWatcherAt s past old → setting_by new ≡ setting_by old → new.deps ≡ old.deps → new.streams.states ≡ states_with s c past → new.streams.told ≡ old.streams.told →
     IsMarkedAt s c past (pages s past) now (turned_by c.event c.verdict) new.fates → IsHeardBy s past c now new
-heard_by s past c now old new at same keys streams told marked = record {
+heard_by s past c now old new at same deps streams told marked = record {
   setting_is = at.setting_is ∙ sym same;
   streams_are = streams;
   fates_are = marked;
-  keys_are = keys ∙ at.keys_are ∙ at.fates_are.keys_are ∙ sym marked.keys_are;
+  keys_are = ap (λ d. d.reached) deps ∙ at.keys_are ∙ at.fates_are.keys_are ∙ sym marked.keys_are;
   told_are = told ∙ at.told_are ∙ at.fates_are.keys_are ∙ sym marked.keys_are;
+  serves = subst (λ d. IfSome d.last (Serves (references_seen (pages s past)))) (sym deps) at.serves;
 }
 
 pub only_at : (s : Setting) (past : List Entry) (w : Watcher) → IsWatcherAt s past w → WatchesOnly w.fates.cache w.fates.reached
@@ -136,15 +139,15 @@ made_is None (Some config) before whole = refl
 made_is (Some key) None before whole = refl
 made_is (Some key) (Some config) before whole = absurd (cc (whole.0 refl))
 
-pub assembly_by : (s : Setting) (past : List Entry) (c : Came) (now : Time) (names : List Name) (w : Watcher) (reached : List Key) (least : Option Key) (made : Option Config) → IsHeardBy s past c now w → IsTimely s past c.event now names →
+pub assembly_by : (s : Setting) (past : List Entry) (c : Came) (now : Time) (names : List Name) (w : Watcher) (reached : List Key) (least : Option Key) (made : Option Config) → IsHeardBy s past c now w → now ≡ (present_after past c.event).now → names ≡ references (pages s past) →
     IsMadeOf w.deps.target w.boot w.fates.cache names reached least made → (IsSome made ↔ IsNone least) → IsAssembly s c past (pages s past) (assembly_with s past reached least made)
-assembly_by s past c now names w reached least made by timely is whole =
+assembly_by s past c now names w reached least made by now_is names_are is whole =
     let made_by : Setting → Assembly = λ t. record { reached = reached; missing = least; config = made_or least made (config_now (pages t past)) } in
     let are : IsAssembly s c past (pages s past) (made_by s) =
     subst (λ t. IsAssembly t c past (pages t past) (made_by t)) (sym by.setting_is)
     (caches_assemble w.boot w.deps.target c past (pages (setting_by w) past) w.fates.cache reached least made
-    (subst (λ t. Knows w.fates.cache (marks_with t c past (pages t past))) by.setting_is (subst (λ n. Knows w.fates.cache (marked s c past (pages s past) n)) timely.now_is by.fates_are.knows))
-    (subst (λ ns. IsMadeOf w.deps.target w.boot w.fates.cache ns reached least made) (timely.references_are ∙ ap (λ t. references (pages t past)) by.setting_is) is)) in record {
+    (subst (λ t. Knows w.fates.cache (marks_with t c past (pages t past))) by.setting_is (subst (λ n. Knows w.fates.cache (marked s c past (pages s past) n)) now_is by.fates_are.knows))
+    (subst (λ ns. IsMadeOf w.deps.target w.boot w.fates.cache ns reached least made) (names_are ∙ ap (λ t. references (pages t past)) by.setting_is) is)) in record {
       reached_are = are.reached_are;
       missing_is = are.missing_is;
       config_is = sym (made_is least made (config_now (pages s past)) whole) ∙ are.config_is;
@@ -182,10 +185,10 @@ settles s past line event reply now a reached sent old f by assembled_is same ti
     (subst (λ keys. AreAskedBy sent keys past page) same (subst (λ xs. AreAskedBy xs a.reached past page) told of.asks))
 
 pub watched_after : (s : Setting) (past : List Entry) (line : ℕ) (event : DriverEvent) (reply : DriverReply) (now : Time) (a : Assembly) (reached : List Key) (old new : Watcher) →
-    IsReachedBy s past (came event reply) now reached old → IsAssembly s (came event reply) past (pages s past) a → a.reached ≡ reached → new.boot ≡ old.boot → new.deps ≡ old.deps → new.fates.cache ≡ old.fates.cache →
+    IsReachedBy s past (came event reply) now reached old → IsServing old.deps (references (pages s past)) → IsAssembly s (came event reply) past (pages s past) a → a.reached ≡ reached → new.boot ≡ old.boot → new.deps ≡ old.deps → new.fates.cache ≡ old.fates.cache →
     new.streams.states ≡ states_of s (driven 0 line event reply ∷ past) → new.streams.told ≡ reached → IsKeptAt (driven 0 line event reply ∷ past) (pages s (driven 0 line event reply ∷ past)) new.fates →
     IsWatcherAt s (driven 0 line event reply ∷ past) new
-watched_after s past line event reply now a reached old new by assembled_is same boot deps cache streams told kept =
+watched_after s past line event reply now a reached old new by serving assembled_is same boot deps cache streams told kept =
     let c : Came = came event reply in
     let ps : List Page = pages s past in
     let e : Entry = driven 0 line event reply in
@@ -198,6 +201,8 @@ watched_after s past line event reply now a reached old new by assembled_is same
       rising = subst (IsStrictlySortedBy key_cmp) (sym keys) by.rising;
       told_are = told ∙ sym keys;
       right = subst (λ b. IsRightBy b.authorities new.fates.cache new.deps) (sym boot) (subst (λ rows. IsRightBy old.boot.authorities rows new.deps) (sym cache) (subst (IsRightBy old.boot.authorities old.fates.cache) (sym deps) by.right));
+      serves = subst (λ d. IfSome d.last (Serves (references (pages s past)))) (sym deps) (if_serving old.deps (references (pages s past)) serving);
+      made = λ driven. subst (λ d. IsSome d.last) (sym deps) (is_made old.deps (references (pages s past)) serving);
     }
 
 -- ---- before the first entry

@@ -1,5 +1,5 @@
 -- What is kept of a channel but for its journal and its calls, and what it is of the history.
-use Rattle.std.specs.Prelude.{◌≡◌, ℕ, List, ◌∷◌, ◌++◌, length, true, not, Option, IfSome, IsTrue, option_map}
+use Rattle.std.specs.Prelude.{◌≡◌, ℕ, List, ◌∷◌, ◌++◌, length, not, Option, IfSome, IsTrue, option_map}
 use Rattle.std.specs.List.{list_all}
 use Rattle.book_trees.specs.resource_check.declared.delivery.Prepared.{Prepared}
 use Rattle.call_journal.specs.declared.event.DriverEvent.{DriverEvent}
@@ -8,7 +8,6 @@ use Rattle.call_journal.specs.declared.reply.CallerReply.{CallerReply}
 use Rattle.call_journal.specs.declared.reply.DriverReply.{DriverReply}
 use Rattle.call_journal.specs.declared.entry.What.{What}
 use Rattle.call_journal.specs.declared.entry.Entry.{Entry}
-use Rattle.config_assembly.specs.Orders.{Name}
 use Rattle.book_trees.specs.xds_history.Setting.{Setting}
 use Rattle.book_trees.specs.xds_history.Responses.{answered_kind}
 use Rattle.book_trees.specs.xds_history.declared.page.Page.{Page}
@@ -16,15 +15,16 @@ use Rattle.book_trees.specs.xds_history.Page.{latest_number}
 use Rattle.book_trees.specs.xds_history.References.{references}
 use Rattle.book_trees.specs.xds_history.Pages.{called, driven, page_of, pages}
 use Rattle.book_trees.specs.xds_history.Right.{IsDriverReply}
-use Rattle.book_trees.specs.xds_history.HistoryLaws.{is_call}
+use Rattle.book_trees.specs.xds_history.HistoryLaws.{is_call, is_report}
 use Rattle.book_trees.specs.ReportedLaws.{ShowsWhatStands}
+use Rattle.book_driver.specs.declared.call_refs.CallRefs.{CallRefs}
 use Rattle.book_driver.specs.declared.channel_driver.Driver.{Driver}
 use Rattle.book_driver.specs.declared.channel_driver.Stepped.{Stepped}
-use Rattle.book_driver.specs.declared.subscriptions.Settled.{Settled}
 use Rattle.book_driver.specs.WatcherKept.{setting_by}
 use Rattle.book_driver.specs.Renewals.{texts_by}
-use Rattle.book_driver.specs.Subscribed.{AreSubscribedAt, names_with}
+use Rattle.book_driver.specs.Subscribed.{AreSubscribedAt}
 use Rattle.book_driver.specs.Courses.{IsRepeat}
+use Rattle.book_driver.specs.ReferredClusters.{AreCalledAt, LatestHasAll}
 use Rattle.book_driver.specs.ShownTrees.{AreConfiguredAt, IsPublication, number_in, snapshot_by}
 
 -- between entries
@@ -39,11 +39,12 @@ pub record HasDriven (d : Driver) : Type 0 where
   pub past : List Entry
   pub at : IsDriverAt (setting_by d.subscriptions.watcher) past d
 
--- what is kept is that of the history, and so are the clusters to which calls refer and the number of the latest snapshot,
--- which shows what stands
-pub record IsDueAt (s : Setting) (past : List Entry) (names : Option (List Name)) (latest : Option ℕ) (d : Driver) : Type 0 where
+-- what is kept is that of the history, and so are what is told of calls and the number of the latest snapshot, which shows
+-- what stands and has the clusters to which calls refer
+pub record IsDueAt (s : Setting) (past : List Entry) (calls : CallRefs) (latest : Option ℕ) (d : Driver) : Type 0 where
   pub at : IsDriverAt s past d
-  pub references_are : names_with names d.subscriptions.last ≡ references (pages s past)
+  pub called : AreCalledAt (pages s past) calls
+  pub latest_has : LatestHasAll (pages s past)
   pub latest_is : latest ≡ latest_number (pages s past)
   pub shows : ShowsWhatStands past (pages s past)
 
@@ -81,14 +82,8 @@ DriversHaveHistory = (s : Setting) (past : List Entry) (d : Driver) → IsDriver
 abbrev pub StreamsAreAll : Type 0
 StreamsAreAll = (s : Setting) (past : List Entry) (d : Driver) → IsDriverAt s past d → length d.subscriptions.watcher.streams.states ≡ s.authorities
 
--- An event that is a report can be answered as the driver's last entry left it: the last entry settled this, and calls refer
--- to the same clusters as then.
-pub record CanRepeat (names : Option (List Name)) (last : Option Settled) : Type 0 where
-  pub kept : Settled
-  pub repeats : IsRepeat true names last kept
-
--- so it is where only calls' entries stand behind an entry of the driver, and calls refer to the same clusters as there
+-- a report repeats what the driver's last entry settled where only calls' entries stand behind that one, and calls refer to the
+-- same clusters as there
 abbrev pub StillRepeats : Type 0
-StillRepeats = (s : Setting) (between : List Entry) (before : Entry) (earlier : List Entry) (names : Option (List Name)) (d : Driver) → IsDriverAt s (between ++ before ∷ earlier) d →
-    IsTrue (list_all (λ c. is_call c.what) between) → IsTrue (not (is_call before.what)) → references (pages s (between ++ before ∷ earlier)) ≡ references (pages s earlier) →
-    names_with names d.subscriptions.last ≡ references (pages s (between ++ before ∷ earlier)) → CanRepeat names d.subscriptions.last
+StillRepeats = (s : Setting) (between : List Entry) (before : Entry) (earlier : List Entry) (event : DriverEvent) → IsTrue (is_report event) → IsTrue (list_all (λ c. is_call c.what) between) → IsTrue (not (is_call before.what)) →
+    references (pages s (between ++ before ∷ earlier)) ≡ references (pages s earlier) → IsRepeat s (between ++ before ∷ earlier) event

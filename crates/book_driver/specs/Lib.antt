@@ -1,4 +1,6 @@
+pub mod ReferredClusters
 pub mod WatcherKept
+pub mod Assembled
 pub mod Renewals
 pub mod Subscribed
 pub mod Courses

@@ -1,46 +1,27 @@
 -- What is kept of streams, watched keys and what the driver's last entry settled, and what it is of the history.
-use Rattle.std.specs.Prelude.{◌≡◌, ℕ, List, [], ◌∷◌, Bool, not, Option, None, Some, IfSome, is_some}
-use Rattle.std.specs.List.{list_any}
+use Rattle.std.specs.Prelude.{◌≡◌, ℕ, List, ◌∷◌, Option, IfSome, is_some}
 use Rattle.xc_base.specs.declared.names.Key.{Key}
 use Rattle.book_trees.specs.resource_check.declared.delivery.Prepared.{Prepared}
 use Rattle.call_journal.specs.declared.event.DriverEvent.{DriverEvent}
 use Rattle.call_journal.specs.declared.event.CallerEvent.{CallerEvent}
 use Rattle.call_journal.specs.declared.reply.CallerReply.{CallerReply}
 use Rattle.call_journal.specs.declared.entry.Entry.{Entry}
-use Rattle.config_assembly.specs.Orders.{Name}
 use Rattle.book_trees.specs.xds_history.Setting.{Setting}
 use Rattle.book_trees.specs.xds_history.Requests.{requests}
 use Rattle.book_trees.specs.xds_history.References.{references_seen}
 use Rattle.book_trees.specs.xds_history.Pages.{called, driven, pages}
-use Rattle.book_trees.specs.xds_history.HistoryLaws.{is_call}
 use Rattle.driver_step.specs.book_streams.StreamsLaws.{came_with}
 use Rattle.driver_step.specs.DriverSteps.{IsAssembly, watched_by}
 use Rattle.driver_step.specs.SettledKeys.{IsSettledAt}
 use Rattle.book_driver.specs.declared.key_renewal.Renewal.{Renewal}
-use Rattle.book_driver.specs.declared.subscriptions.Settled.{Settled}
 use Rattle.book_driver.specs.declared.subscriptions.Subscriptions.{Subscriptions}
-use Rattle.book_driver.specs.WatcherKept.{IsWatcherAt, assembly_with, setting_by}
+use Rattle.book_driver.specs.WatcherKept.{IsWatcherAt, assembly_with, has_driven, setting_by}
 use Rattle.book_driver.specs.Renewals.{IsToldBy, reply_by}
-
--- whether the driver has made an entry
-abbrev pub has_driven : List Entry → Bool
-has_driven past = list_any (λ e. not (is_call e.what)) past
-
--- the clusters to which calls referred at the driver's last entry, as they are kept
-abbrev pub names_kept : Option Settled → List Name
-names_kept None = []
-names_kept (Some last) = last.references
-
--- the clusters to which calls refer, where none are handed in if they are those of the driver's last entry
-abbrev pub names_with : Option (List Name) → Option Settled → List Name
-names_with None last = names_kept last
-names_with (Some names) last = names
 
 -- between entries
 pub record AreSubscribedAt (s : Setting) (past : List Entry) (v : Subscriptions) : Type 0 where
   pub watcher_is : IsWatcherAt s past v.watcher
-  pub references_are : names_kept v.last ≡ references_seen (pages s past)
-  pub settled : IfSome v.last (λ l. IsSettledAt s past (pages s past) l.references l.missing)
+  pub settled : IfSome v.last (λ l. IsSettledAt s past (pages s past) (references_seen (pages s past)) l.missing)
   pub driven_is : is_some v.last ≡ has_driven past
 
 -- it is what is kept after some history

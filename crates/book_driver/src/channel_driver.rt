@@ -3,13 +3,12 @@ ghost use Rattle.std.specs.Prelude.{◌≡◌, ◌<◌, ◌≤◌, ◌+◌, ◌^
 ghost use Rattle.xc_base.specs.declared.names.Kind.TheVariants.{Listener as ListenerKind};
 ghost use Rattle.call_journal.specs.declared.entry.Entry.{Entry as EntryValue};
 ghost use Rattle.book_trees.specs.xds_history.Setting.{Setting, setting_of};
-ghost use Rattle.book_trees.specs.xds_history.HistoryLaws.{is_report};
 ghost use Rattle.driver_step.specs.book_streams.StreamsLaws.{authority_in};
 ghost use Rattle.book_hearing.specs.HeardEvents.{IsPreparedFor};
-ghost use Rattle.book_driver.specs.declared.subscriptions.Settled.{Settled as SettledValue};
 ghost use Rattle.book_driver.specs.Courses.{IsRepeat};
 ghost use Rattle.book_driver.specs.DriverKept.{HasDriven, IsDriverAt, IsDueAt, IsStepAt};
 
+use crate::call_refs::CallRefs;
 use crate::configured_trees::{ConfiguredTrees, Published};
 use crate::subscriptions::Subscriptions;
 use crate::watcher::Watcher;
@@ -65,16 +64,15 @@ impl Driver {
         })
     }
 
-    /// Takes an event. A response comes with its prepared payload. The references are the clusters to which calls refer; none
-    /// are handed in where they are those of the driver's entry before. `latest` is the number of the latest snapshot. A report
-    /// of an endpoint's state or on bytes that break no stream, or a sweep, that isn't the driver's first entry counts no step
-    /// where the references are those of the entry before. It fails for want of memory alone, and then nothing is said of what
-    /// is kept.
+    /// Takes an event. A response comes with its prepared payload. `latest` is the number of the latest snapshot. A report of an
+    /// endpoint's state or on bytes that break no stream, or a sweep, that isn't the driver's first entry counts no step where
+    /// calls refer to what they referred to at the entry before. It fails for want of memory alone, and then nothing is said of
+    /// what is kept.
     pub fn step<L: Ledger>(
         &mut self,
         event: &DriverEvent,
         prepared: Option<Prepared>,
-        references: Option<List<Text>>,
+        calls: CallRefs<'_>,
         latest: Option<u32>,
         steps: &mut Steps<L>,
     ) -> Result<Stepped, Memory>
@@ -82,14 +80,14 @@ impl Driver {
         requires prepared { IsPreparedFor event.now prepared }
         requires few { IfSome latest (λ n. n + 1 < 2 ^ 32) }
         requires at { HasDriven self.old }
-        ensures step { IfOk result (λ stepped. (s : Setting) (past : List EntryValue) → IsDueAt s past references latest self.old → IsStepAt s past event.now prepared stepped self.new) }
-        ensures still { (last : SettledValue) → IsRepeat (is_report event.now) references self.old.subscriptions.last last → steps.new ≡ steps.old }
+        ensures step { IfOk result (λ stepped. (s : Setting) (past : List EntryValue) → IsDueAt s past calls.entry latest self.old → IsStepAt s past event.now prepared stepped self.new) }
+        ensures still { (s : Setting) (past : List EntryValue) → IsDueAt s past calls.entry latest self.old → IsRepeat s past event.now → steps.new ≡ steps.old }
     {
         self.trees.trees.came(event)?;
         let now = self.trees.trees.now;
         let renewal = self
             .subscriptions
-            .answer(event, prepared, now, references, steps)?;
+            .answer(event, prepared, now, calls, steps)?;
         let published = self
             .trees
             .show(event, renewal.made, &renewal.others, latest)?;

@@ -14,6 +14,7 @@ ghost use Rattle.book_hearing.specs.HeardEvents.{IsPreparedFor};
 ghost use Rattle.book_driver.specs.WatcherKept.{HasWatched, IsHeardBy, IsTimely, IsWatcherAt};
 ghost use Rattle.book_driver.specs.Renewals.{IsRenewalAt, IsToldBy};
 
+use crate::call_refs::CallRefs;
 use crate::marking::{Brought, mark};
 use crate::watcher::Watcher;
 use ads_stream::Verdict;
@@ -87,27 +88,27 @@ impl Watcher {
         })
     }
 
-    /// Takes in an event at a time, with the clusters that calls refer to: its verdict, what is awaited and configured by it,
+    /// Takes in an event at a time, with what calls refer to: its verdict, what is awaited and configured by it,
     /// and the requests that are due. It fails for want of memory alone, and then nothing is said of what is kept.
     pub fn renew<L: Ledger>(
         &mut self,
         event: &DriverEvent,
         prepared: Option<Prepared>,
         now: Time,
-        references: &List<Text>,
+        calls: CallRefs<'_>,
         steps: &mut Steps<L>,
     ) -> Result<Renewal, Memory>
         requires known { IfSome (authority_in event.now) (λ a. a.0 < length self.old.streams.states) }
         requires prepared { IsPreparedFor event.now prepared }
         requires at { HasWatched self.old }
-        ensures step { IfOk result (λ r. (s : Setting) (past : List EntryValue) → IsWatcherAt s past self.old → IsTimely s past event.now now references.now → IsRenewalAt s past event.now prepared r self.new) }
+        ensures step { IfOk result (λ r. (s : Setting) (past : List EntryValue) → IsWatcherAt s past self.old → IsTimely s past event.now now calls.entry self.old.deps.shown → IsRenewalAt s past event.now prepared r self.new) }
         ensures whole { IfOk result (λ r. IsSome r.made ↔ IsNone r.missing) }
         ensures others { IfOk result (λ r. IfSome r.made (λ config. StandAsShown r.others self.old.deps.shown config)) }
         ensures shown { IfOk result (λ r. self.new.deps.shown ≡ option_or r.made self.old.deps.shown) }
         ensures lawful { IfOk result (λ r. IfSome r.made IsLawfulConfig) }
     {
         let heard = self.take_in(event, prepared, now, steps)?;
-        let outcome = self.assemble(&heard.changed, references, steps)?;
+        let outcome = self.assemble(&heard.changed, calls, steps)?;
         let reached = Reached {
             keys: outcome.reached,
             stays: outcome.stays,

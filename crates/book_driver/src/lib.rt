@@ -3,6 +3,7 @@
 //! call's clause says what it makes of them in the words of the whole history.
 #![tactic(auto)]
 
+pub mod call_refs;
 pub mod channel_driver;
 pub mod configured_trees;
 pub mod driver_laws;
@@ -11,6 +12,7 @@ pub mod marking;
 pub mod subscriptions;
 pub mod watcher;
 
+pub use call_refs::CallRefs;
 pub use channel_driver::{Driver, Stepped};
 pub use configured_trees::{ConfiguredTrees, Published};
 pub use key_renewal::Renewal;

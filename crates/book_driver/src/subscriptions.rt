@@ -1,5 +1,5 @@
 //! What is watched, and what the driver's last entry settled of it.
-ghost use Rattle.std.specs.Prelude.{◌≡◌, ◌<◌, ◌↔◌, List, Some, length, IfOk, IfSome, IsTrue, OnOk};
+ghost use Rattle.std.specs.Prelude.{◌≡◌, ◌<◌, List, None, Some, length, IfOk, IfSome, OnOk};
 ghost use Rattle.std.specs.Option.{option_or};
 ghost use Rattle.xds_config.specs.Configs.{IsLawfulConfig};
 ghost use Rattle.dep_manager.specs.ShownEntries.{StandAsShown};
@@ -8,11 +8,13 @@ ghost use Rattle.book_trees.specs.xds_history.Setting.{Setting};
 ghost use Rattle.book_trees.specs.xds_history.HistoryLaws.{is_report};
 ghost use Rattle.driver_step.specs.book_streams.StreamsLaws.{authority_in};
 ghost use Rattle.book_hearing.specs.HeardEvents.{IsPreparedFor};
-ghost use Rattle.book_driver.specs.declared.subscriptions.Settled.{Settled as SettledValue};
+ghost use Rattle.book_trees.specs.xds_history.Pages.{pages};
+ghost use Rattle.book_driver.specs.ReferredClusters.{AreReferredAt};
 ghost use Rattle.book_driver.specs.WatcherKept.{HasWatched, IsTimely, IsWatcherAt};
-ghost use Rattle.book_driver.specs.Subscribed.{AreSubscribedAt, HasSubscribed, IsAnsweredAt, names_with};
+ghost use Rattle.book_driver.specs.Subscribed.{AreSubscribedAt, HasSubscribed, IsAnsweredAt};
 ghost use Rattle.book_driver.specs.Courses.{IsCourse, IsRepeat, quiet_answer};
 
+use crate::call_refs::CallRefs;
 use crate::key_renewal::Renewal;
 use crate::marking::is_broken;
 use crate::watcher::Watcher;
@@ -22,13 +24,11 @@ use call_journal::DriverEvent;
 use place_marks::Marks;
 use std::alloc::Global;
 use std::sync::ledger::Ledger;
-use xc_base::{Key, List, Memory, Same, Steps, Text, Time};
+use xc_base::{Key, List, Memory, Steps, Time};
 
 /// What the driver's last entry settled.
 #[derive(Drop)]
 pub struct Settled {
-    /// The clusters to which calls referred, in the order of their bytes.
-    pub references: List<Text>,
     /// The least reached key that is awaited.
     pub missing: Option<Key>,
 }
@@ -47,8 +47,8 @@ pub struct Subscriptions {
 enum Course {
     /// As the driver's last entry left it: nothing is reached anew and nothing asked.
     Repeats(Settled),
-    /// By what it brings, where calls refer to these clusters.
-    Renews(List<Text>),
+    /// By what it brings.
+    Renews,
 }
 
 /// Whether an event is a report of an endpoint's state or on bytes that break no stream, or a sweep.
@@ -59,53 +59,6 @@ fn is_report(event: &DriverEvent) -> bool
         DriverEvent::Endpoint { .. } | DriverEvent::Sweep => true,
         DriverEvent::Bytes { how, .. } => !is_broken(*how),
         _ => false,
-    }
-}
-
-/// Whether calls refer to the same clusters as at the driver's last entry.
-fn are_same(names: &Option<List<Text>>, last: &Settled) -> bool
-    ensures { IsTrue result ↔ (names_with names.now (Some last.now) ≡ last.now.references) }
-{
-    match names {
-        Some(names) => names.same(&last.references),
-        None => true,
-    }
-}
-
-/// The clusters to which calls refer.
-fn names_with(names: Option<List<Text>>, last: Settled) -> List<Text>
-    ensures { result ≡ names_with names (Some last) }
-{
-    match names {
-        Some(names) => names,
-        None => last.references,
-    }
-}
-
-/// How an event is answered after the driver's last entry settled this.
-fn course_after(is_quiet: bool, names: Option<List<Text>>, last: Settled) -> Course
-    ensures { IsCourse is_quiet names (Some last) result }
-{
-    if is_quiet && are_same(&names, &last) {
-        return Course::Repeats(last);
-    }
-    Course::Renews(names_with(names, last))
-}
-
-/// How an event is answered, by whether it is a report, by the clusters to which calls refer, where they aren't those of the
-/// driver's last entry, and by what that one settled.
-fn course_of(
-    alloc: Global,
-    is_quiet: bool,
-    names: Option<List<Text>>,
-    last: Option<Settled>,
-) -> Course
-    ensures { IsCourse is_quiet names last result }
-{
-    match (names, last) {
-        (names, Some(last)) => course_after(is_quiet, names, last),
-        (Some(names), None) => Course::Renews(names),
-        (None, None) => Course::Renews(List::new(alloc)),
     }
 }
 
@@ -134,31 +87,43 @@ fn repeat(alloc: Global, missing: Option<Key>) -> Renewal
 }
 
 impl Subscriptions {
-    /// Answers an event by what it brings, where calls refer to these clusters.
+    /// How an event is answered, by what the driver's last entry settled, which is taken out.
+    fn take_course(&mut self, event: &DriverEvent, calls: CallRefs<'_>) -> Result<Course, Memory>
+        ensures course { IfOk result (IsCourse event.now calls.entry self.old) }
+        ensures rest { self.new ≡ record { watcher = self.old.watcher; last = None } }
+    {
+        let Some(last) = self.last.take() else {
+            return Ok(Course::Renews);
+        };
+        if !is_report(event) {
+            return Ok(Course::Renews);
+        }
+        if calls.are_served(self.watcher.alloc, &self.watcher.deps)? {
+            return Ok(Course::Repeats(last));
+        }
+        Ok(Course::Renews)
+    }
+
+    /// Answers an event by what it brings.
     fn renew<L: Ledger>(
         &mut self,
         event: &DriverEvent,
         prepared: Option<Prepared>,
         now: Time,
-        references: List<Text>,
+        calls: CallRefs<'_>,
         steps: &mut Steps<L>,
     ) -> Result<Renewal, Memory>
         requires known { IfSome (authority_in event.now) (λ a. a.0 < length self.old.watcher.streams.states) }
         requires prepared { IsPreparedFor event.now prepared }
         requires at { HasWatched self.old.watcher }
-        ensures step { IfOk result (λ r. (s : Setting) (past : List EntryValue) → IsWatcherAt s past self.old.watcher → IsTimely s past event.now now references → IsAnsweredAt s past event.now prepared r self.new) }
+        ensures step { IfOk result (λ r. (s : Setting) (past : List EntryValue) → IsWatcherAt s past self.old.watcher → IsTimely s past event.now now calls.entry self.old.watcher.deps.shown → IsAnsweredAt s past event.now prepared r self.new) }
         ensures lawful { IfOk result (λ r. IfSome r.made IsLawfulConfig) }
         ensures others { IfOk result (λ r. IfSome r.made (λ config. StandAsShown r.others self.old.watcher.deps.shown config)) }
         ensures shown { IfOk result (λ r. self.new.watcher.deps.shown ≡ option_or r.made self.old.watcher.deps.shown) }
     {
-        let renewal = self
-            .watcher
-            .renew(event, prepared, now, &references, steps)?;
+        let renewal = self.watcher.renew(event, prepared, now, calls, steps)?;
         let missing = copy_of(&renewal.missing)?;
-        self.last = Some(Settled {
-            references,
-            missing,
-        });
+        self.last = Some(Settled { missing });
         Ok(renewal)
     }
 
@@ -172,40 +137,34 @@ impl Subscriptions {
         Ok(repeat(self.watcher.alloc, missing))
     }
 
-    /// Answers an event at a time, where calls refer to these clusters; none are handed in where they are those of the
-    /// driver's last entry. A report of an endpoint's state or on bytes that break no stream, or a sweep, repeats what that one
-    /// settled, unless calls refer to others, and then no step is counted. It fails for want of memory alone, and then nothing
-    /// is said of what is kept.
+    /// Answers an event at a time, with what calls refer to. A report of an endpoint's state or on bytes that break no stream, or
+    /// a sweep, repeats what the driver's last entry settled, unless calls refer to clusters that aren't configured or no longer
+    /// to one that is so for them alone; then no step is counted. It fails for want of memory alone, and then nothing is said of
+    /// what is kept.
     pub fn answer<L: Ledger>(
         &mut self,
         event: &DriverEvent,
         prepared: Option<Prepared>,
         now: Time,
-        references: Option<List<Text>>,
+        calls: CallRefs<'_>,
         steps: &mut Steps<L>,
     ) -> Result<Renewal, Memory>
         requires known { IfSome (authority_in event.now) (λ a. a.0 < length self.old.watcher.streams.states) }
         requires prepared { IsPreparedFor event.now prepared }
         requires at { HasSubscribed self.old }
-        ensures step { IfOk result (λ r. (s : Setting) (past : List EntryValue) → AreSubscribedAt s past self.old → IsTimely s past event.now now (names_with references self.old.last) → IsAnsweredAt s past event.now prepared r self.new) }
+        ensures step { IfOk result (λ r. (s : Setting) (past : List EntryValue) → AreSubscribedAt s past self.old → IsTimely s past event.now now calls.entry self.old.watcher.deps.shown → IsAnsweredAt s past event.now prepared r self.new) }
         ensures lawful { IfOk result (λ r. IfSome r.made IsLawfulConfig) }
         ensures others { IfOk result (λ r. IfSome r.made (λ config. StandAsShown r.others self.old.watcher.deps.shown config)) }
         ensures shown { IfOk result (λ r. self.new.watcher.deps.shown ≡ option_or r.made self.old.watcher.deps.shown) }
-        ensures still { (last : SettledValue) → IsRepeat (is_report event.now) references self.old.last last → steps.new ≡ steps.old }
+        ensures still { (s : Setting) (past : List EntryValue) → AreSubscribedAt s past self.old → AreReferredAt (pages s past) self.old.watcher.deps.shown calls.entry → IsRepeat s past event.now → steps.new ≡ steps.old }
     {
-        let course = course_of(
-            self.watcher.alloc,
-            is_report(event),
-            references,
-            self.last.take(),
-        );
-        match course {
+        match self.take_course(event, calls)? {
             Course::Repeats(last) => {
                 let renewal = self.repeat(last)?;
                 Ok(renewal)
             }
-            Course::Renews(references) => {
-                let renewal = self.renew(event, prepared, now, references, steps)?;
+            Course::Renews => {
+                let renewal = self.renew(event, prepared, now, calls, steps)?;
                 Ok(renewal)
             }
         }

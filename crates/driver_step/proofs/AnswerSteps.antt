@@ -63,7 +63,7 @@ answers_are_next s past ps line event reply a assembled by =
 
 -- ---- what a cache makes
 
-made_same : (boot : Bootstrap) (target : Target) (rows : Rows) (marks : List Watched) (names : List Name) → Knows rows marks
+pub made_same : (boot : Bootstrap) (target : Target) (rows : Rows) (marks : List Watched) (names : List Name) → Knows rows marks
     → IsSame (resources target boot.authorities rows) (known_as (setting_of boot target) (fate_in marks)) names
 made_same boot target rows marks names knows =
     fates_of_reached_keys_decide (resources target boot.authorities rows) names (fate_in marks) (λ key has. ap (fate_at key.home) (sym (knows key)))

@@ -15,7 +15,6 @@ use Rattle.call_journal.specs.declared.event.DriverEvent.{DriverEvent}
 use Rattle.call_journal.specs.declared.reply.DriverReply.{DriverReply}
 use Rattle.call_journal.specs.declared.entry.What.{What}
 use Rattle.call_journal.specs.declared.entry.Entry.{Entry}
-use Rattle.book_driver.specs.config_assembly.Orders.{Name}
 use Rattle.book_calls.specs.xds_history.Setting.{Setting, setting_of}
 use Rattle.book_calls.specs.xds_history.Page.{config_now, latest_number}
 use Rattle.book_calls.specs.xds_history.Pages.{driven, page_of, pages}
@@ -33,11 +32,9 @@ use Rattle.book_picks.proofs.ServingLemmas.{marks_tell_served, quiet_leaves, tre
 use Rattle.book_driver.specs.Courses.{IsRepeat}
 use Rattle.book_driver.specs.DriverKept.{IsDriverAt, IsStepAt, reply_in}
 use Rattle.book_driver.specs.ShownTrees.{IsPublication, number_in, snapshot_by}
-use Rattle.book_driver.specs.Subscribed.{names_with}
 use Rattle.book_driver.specs.declared.channel_driver.Driver.{Driver}
 use Rattle.book_driver.specs.declared.channel_driver.Stepped.{Stepped}
 use Rattle.book_driver.specs.declared.configured_trees.Published.{Published}
-use Rattle.book_driver.specs.declared.subscriptions.Settled.{Settled}
 use Rattle.book_driver.proofs.StillLemmas.{still_repeats}
 use Rattle.book_progress.specs.ProgressKept.{most_entries}
 use Rattle.xds_book.specs.BookEntries.{IsStill}
@@ -143,15 +140,7 @@ latest_few s past latest right most is = subst (λ (l : Option ℕ). IfSome l (�
 
 -- ---- steps that aren't counted
 
-repeat_by : (b : Bool) (names : Option (List Name)) (last : Option Settled) (kept : Settled) → IsTrue b → IsRepeat true names last kept → IsRepeat b names last kept
-repeat_by true names last kept is at = at
-repeat_by false names last kept is at = absurd (cc is)
-
-pub still_steps : (s : Setting) (past : List Entry) (names : Option (List Name)) (event : DriverEvent) (driver : Driver) (old new : ℕ) → IsDriverAt s past driver → names_with names driver.subscriptions.last ≡ references (pages s past)
-    → ((last : Settled) → IsRepeat (is_report event) names driver.subscriptions.last last → new ≡ old) → IsTrue (is_report event) → IsStill s past → new ≡ old
-still_steps s past names event driver old new at names_are counts report still =
-    let at_is = subst (λ (h : List Entry). IsDriverAt s h driver) still.is at in
+pub still_steps : (s : Setting) (past : List Entry) (event : DriverEvent) (old new : ℕ) → (IsRepeat s past event → new ≡ old) → IsTrue (is_report event) → IsStill s past → new ≡ old
+still_steps s past event old new counts report still =
     let references_are : references (pages s (still.between ++ still.before ∷ still.earlier)) ≡ references (pages s still.earlier) = sym (ap (λ (h : List Entry). references (pages s h)) still.is) ∙ still.references in
-    let names_is = names_are ∙ ap (λ (h : List Entry). references (pages s h)) still.is in
-    let can = still_repeats s still.between still.before still.earlier names driver at_is still.calls still.driver references_are names_is in
-    counts can.kept (repeat_by (is_report event) names driver.subscriptions.last can.kept report can.repeats)
+    counts (subst (λ (h : List Entry). IsRepeat s h event) (sym still.is) (still_repeats s still.between still.before still.earlier event report still.calls still.driver references_are))

@@ -18,15 +18,16 @@ use Rattle.book_driver.specs.config_assembly.Orders.{Name}
 use Rattle.book_calls.specs.xds_history.Setting.{Setting, setting_of}
 use Rattle.book_calls.specs.xds_history.Page.{latest_number}
 use Rattle.book_calls.specs.xds_history.Pages.{driven, page_of, pages}
-use Rattle.book_calls.specs.xds_history.References.{references}
 use Rattle.book_calls.specs.xds_history.Right.{Right}
 use Rattle.book_calls.specs.CallsKept.{AreCallsAt}
+use Rattle.book_calls.proofs.xds_history.KeepProofs.{latest_has_references}
 use Rattle.book_calls.specs.declared.calls.Calls.{Calls}
 use Rattle.book_driver.proofs.book_trees.DueNumberLemmas.{latest_shows_what_stands}
 use Rattle.book_picks.specs.declared.kept_turns.Turns.{Turns}
 use Rattle.book_driver.specs.DriverKept.{IsDueAt, IsStepAt, reply_in}
 use Rattle.book_driver.specs.ShownTrees.{number_in, snapshot_by}
-use Rattle.book_driver.specs.Subscribed.{names_with}
+use Rattle.book_driver.specs.ReferredClusters.{AreCalledAt}
+use Rattle.book_driver.specs.declared.call_refs.CallRefs.{CallRefs}
 use Rattle.book_driver.specs.declared.channel_driver.Driver.{Driver}
 use Rattle.book_driver.specs.declared.channel_driver.Stepped.{Stepped}
 use Rattle.book_progress.specs.ActorCounts.{count_after}
@@ -66,11 +67,16 @@ publishes_some (Err e) archive ticket calls new kept = tt
 
 -- ---- what a step of the driver is due by
 
-pub due_at : (archive : Shelves) (boot : Bootstrap) (target : Target) (past : List Entry) (names : Option (List Name)) (latest : Option ℕ) (calls : Calls) (turns : Turns) (driver : Driver) → target.key.kind ≡ Kind.Listener → Right (setting_of boot target) past
-    → IsReady archive (setting_of boot target) past calls turns driver → names_with names driver.subscriptions.last ≡ references (pages (setting_of boot target) past) → latest ≡ latest_number (pages (setting_of boot target) past)
-    → IsDueAt (setting_of boot target) past names latest driver
-due_at archive boot target past names latest calls turns driver listener right ready names_are is =
-    record { at = ready.driver_is; references_are = names_are; latest_is = is; shows = latest_shows_what_stands boot target past listener right }
+pub due_at : (archive : Shelves) (boot : Bootstrap) (target : Target) (past : List Entry) (refs : CallRefs) (latest : Option ℕ) (calls : Calls) (turns : Turns) (driver : Driver) → target.key.kind ≡ Kind.Listener → Right (setting_of boot target) past
+    → IsReady archive (setting_of boot target) past calls turns driver → AreCalledAt (pages (setting_of boot target) past) refs → latest ≡ latest_number (pages (setting_of boot target) past)
+    → IsDueAt (setting_of boot target) past refs latest driver
+due_at archive boot target past refs latest calls turns driver listener right ready called is = record {
+  at = ready.driver_is;
+  called = called;
+  latest_has = latest_has_references (setting_of boot target) past right;
+  latest_is = is;
+  shows = latest_shows_what_stands boot target past listener right;
+}
 
 -- ---- what is kept
 

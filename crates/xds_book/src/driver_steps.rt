@@ -1,11 +1,10 @@
 //! The steps of the driver.
-ghost use Rattle.std.specs.Prelude.{◌≡◌, ◌↔◌, ◌<◌, ◌∷◌, ◌++◌, ℕ, List, Option, length, take, All, IfOk, IfSome, IsTrue, OnErr, OnOk, Err, Some, true, false, option_copied, option_map, option_to_list};
+ghost use Rattle.std.specs.Prelude.{◌≡◌, ◌↔◌, ◌<◌, ◌∷◌, ◌++◌, ℕ, List, length, take, All, IfOk, IfSome, IsTrue, OnErr, OnOk, Err, Some, true, false, option_copied, option_map, option_to_list};
 ghost use Rattle.boxcar.specs.Table.{Shelves};
 ghost use Rattle.snapshot_store.specs.Tickets.{IsTicketOf};
 ghost use Rattle.call_journal.specs.declared.entry.Entry.{Entry as EntryValue};
 ghost use Rattle.book_calls.specs.xds_history.Setting.{Setting, setting_of};
 ghost use Rattle.book_calls.specs.xds_history.Pages.{pages};
-ghost use Rattle.book_calls.specs.xds_history.References.{references, references_seen};
 ghost use Rattle.book_calls.specs.xds_history.Right.{Right};
 ghost use Rattle.book_calls.specs.xds_history.HistoryLaws.{is_report};
 ghost use Rattle.book_progress.specs.PlayedPlans.{IsNext};
@@ -14,8 +13,7 @@ ghost use Rattle.book_progress.specs.ProgressKept.{most_entries};
 ghost use Rattle.book_calls.specs.CallsKept.{AreCallsAt};
 ghost use Rattle.book_driver.specs.DriverKept.{reply_in};
 ghost use Rattle.book_driver.specs.ShownTrees.{number_in, snapshot_by};
-ghost use Rattle.book_driver.specs.Subscribed.{names_kept, names_with};
-ghost use Rattle.book_driver.specs.declared.subscriptions.Settled.{Settled};
+ghost use Rattle.book_driver.specs.ReferredClusters.{AreCalledAt};
 ghost use Rattle.xds_book.specs.BookEntries.{Drives, IsFull, IsKnownTo, IsLaneOf, IsPreparedFor, IsStill, Makes, MakesNone, is_spent_after};
 ghost use Rattle.xds_book.specs.Publishing.{IsComplete, Publishes, Renews, snapshot_in};
 
@@ -26,7 +24,7 @@ use crate::lane_entries::add_entry;
 use crate::lanes::Lane;
 use crate::refused_texts::add_to_both;
 use book_calls::{Calls, Prepared};
-use book_driver::{Published, Stepped};
+use book_driver::{CallRefs, Published, Stepped};
 use book_picks::Turns;
 use call_journal::{DriverEvent, DriverReply, What};
 use cluster_tree::{Snapshot, Trees};
@@ -36,15 +34,14 @@ use std::sync::Wait;
 use std::sync::ledger::Ledger;
 use xc_base::{List, Memory, Shared, Steps, Text};
 
-/// The clusters to which calls refer, and none where they are those of the driver's entry before.
-fn new_references(calls: &Calls) -> Result<Option<List<Text>>, Memory>
-    ensures { IfOk result (λ names. (archive : Shelves) (s : Setting) (past : List EntryValue) (last : Option Settled) → Right s past → AreCallsAt archive (pages s past) calls.now → names_kept last ≡ references_seen (pages s past) → names_with names last ≡ references (pages s past)) }
+/// What calls refer to, and whether it may be other clusters than at the driver's entry before.
+fn call_refs(calls: &Calls) -> CallRefs<'_>
+    ensures { (archive : Shelves) (s : Setting) (past : List EntryValue) → Right s past → AreCallsAt archive (pages s past) calls.now → AreCalledAt (pages s past) result }
 {
-    if !calls.may_differ() {
-        return Ok(None);
+    CallRefs {
+        refs: &calls.refs,
+        may_differ: calls.may_differ(),
     }
-    let names = calls.referred()?;
-    Ok(Some(names))
 }
 
 /// The number of the snapshot that is published, if one is.
@@ -183,11 +180,9 @@ impl<J: Job> Book<J> {
         ensures still { IsTrue (is_report event) → IsStill (setting_of J.boot J.target) self.old.entries → steps.new ≡ steps.old }
     {
         self.is_spent = true;
-        let references = new_references(&self.calls)?;
         let latest = self.calls.latest_number();
-        let stepped = self
-            .driver
-            .step(&event, prepared, references, latest, steps)?;
+        let calls = call_refs(&self.calls);
+        let stepped = self.driver.step(&event, prepared, calls, latest, steps)?;
         let (reply, published) = answer_of(self.alloc, stepped)?;
         let trees = &self.driver.trees.trees.trees;
         let ticket = store(rt, self.archive.get(), &mut self.turns, trees, published)?;

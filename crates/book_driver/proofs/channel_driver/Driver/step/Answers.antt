@@ -7,7 +7,7 @@ use Rattle.book_trees.specs.xds_history.Pages.{pages}
 use Rattle.book_trees.specs.TreesKept.{clusters_of}
 use Rattle.book_trees.proofs.FollowLemmas.{entries_kept}
 use Rattle.book_driver.specs.WatcherKept.{setting_by}
-use Rattle.book_driver.proofs.SteppedLemmas.{came_with_trees, stepped_at}
+use Rattle.book_driver.proofs.SteppedLemmas.{came_with_trees, referred_at, stepped_at}
 use Rattle.book_driver.proofs.channel_driver.Driver.step.Goals as goal
 
 pub show-requires-clause-changes : goal.show-requires-clause-changes
@@ -31,7 +31,16 @@ returns-clause-step g c s past due =
     let trees = c.in_ok-came.ensures past (pages s past) due.at.configured.trees_are in
     let with = came_with_trees s c.args.event.now past c.came.new.self c.args.self.now.trees.config trees due.at.configured.config_is in
     stepped_at s past c.args.event.now c.args.prepared c.in_ok-renewal.renewal c.answer.new.self c.in_ok-published.published c.show.new.self c.args.self.now.trees.config due.at.configured.config_is (c.in_ok-renewal.ensures.shown ∙ ap (option_or c.in_ok-renewal.renewal.made) due.at.shown_is)
-    (c.in_ok-renewal.ensures.step s past due.at.subscribed (record { now_is = trees.now_is; references_are = due.references_are }))
+    (c.in_ok-renewal.ensures.step s past due.at.subscribed (record { now_is = trees.now_is; referred = referred_at s past c.args.self.now c.args.calls c.args.latest due }))
     (c.in_ok-published.ensures.published s past with due.shows due.latest_is)
     c.in_ok-published.ensures.config c.in_ok-published.ensures.lawful
     (λ line page of. c.in_ok-published.ensures.kept s past line _ page with of)
+
+pub returns-clause-still : goal.returns-clause-still
+returns-clause-still g c s past due repeat = c.in_ok-renewal.ensures.still s past due.at.subscribed (referred_at s past c.args.self.now c.args.calls c.args.latest due) repeat
+
+pub returns-in_err-renewal-clause-still : goal.returns-in_err-renewal-clause-still
+returns-in_err-renewal-clause-still g c s past due repeat = c.answer.ensures.still s past due.at.subscribed (referred_at s past c.args.self.now c.args.calls c.args.latest due) repeat
+
+pub returns-in_err-published-clause-still : goal.returns-in_err-published-clause-still
+returns-in_err-published-clause-still g c s past due repeat = c.answer.ensures.still s past due.at.subscribed (referred_at s past c.args.self.now c.args.calls c.args.latest due) repeat

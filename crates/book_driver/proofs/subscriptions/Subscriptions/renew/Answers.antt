@@ -5,5 +5,5 @@ use Rattle.book_driver.proofs.subscriptions.Subscriptions.renew.Goals as goal
 
 pub returns-clause-step : goal.returns-clause-step
 returns-clause-step g c s past at timely =
-    subst (λ least. IsAnsweredAt s past c.args.event.now c.args.prepared c.in_ok-renewal.renewal (record { watcher = c.renew.new.self; last = Some record { references = c.args.references; missing = least } })) (sym c.in_ok-missing.ensures)
-    (renewal_answers s past c.args.event.now c.args.prepared c.in_ok-renewal.renewal c.renew.new.self c.args.references (c.in_ok-renewal.ensures.step s past at timely) timely.references_are)
+    subst (λ least. IsAnsweredAt s past c.args.event.now c.args.prepared c.in_ok-renewal.renewal (record { watcher = c.renew.new.self; last = Some record { missing = least } })) (sym c.in_ok-missing.ensures)
+    (renewal_answers s past c.args.event.now c.args.prepared c.in_ok-renewal.renewal c.renew.new.self (c.in_ok-renewal.ensures.step s past at timely))

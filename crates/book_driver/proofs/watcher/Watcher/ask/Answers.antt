@@ -21,12 +21,12 @@ returns-clause-sent g c s past before a by same =
     c.in_ok-sent.ensures.sent s before past (watched_by s before past (pages s past) a) (c.as_slice.ensures ∙ keys_by s before past a c.args.reached.keys same) by.streams_are
 
 pub returns-clause-kept : goal.returns-clause-kept
-returns-clause-kept g c s past line event reply a by assembled_is same timely told =
+returns-clause-kept g c s past line event reply a by serving assembled_is same timely told =
     let keys = c.as_slice.ensures ∙ keys_by s (came event reply) past a c.args.reached.keys same in
     let asked = c.in_ok-sent.ensures.sent s (came event reply) past (watched_by s (came event reply) past (pages s past) a) keys by.streams_are in
     watched_after s past line event reply c.args.now a c.args.reached.keys c.args.self.now
     (record { alloc = c.args.self.now.alloc; boot = c.args.self.now.boot; deps = c.args.self.now.deps; streams = c.names.new.self; fates = c.settle.new.self })
-    by assembled_is same refl refl (c.in_ok-settle.ensures.cache ∙ c.in_ok-leave.ensures.cache)
+    by serving assembled_is same refl refl (c.in_ok-settle.ensures.cache ∙ c.in_ok-leave.ensures.cache)
     (c.in_ok-sent.ensures.after s 0 line event reply past (watched_by s (came event reply) past (pages s past) a) keys by.streams_are (told ∙ asked))
     (c.in_ok-sent.ensures.told ∙ c.as_slice.ensures)
     (settles s past line event reply c.args.now a c.args.reached.keys c.in_ok-sent.sent c.args.self.now c.settle.new.self by assembled_is same timely told asked

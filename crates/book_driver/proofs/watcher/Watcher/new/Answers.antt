@@ -1,5 +1,7 @@
-use Rattle.std.proofs.Common.{◌∙◌, None, refl, sym, ap, subst}
+use Rattle.std.proofs.Common.{◌∙◌, None, [], refl, sym, ap, subst}
+use Rattle.std.specs.Prelude.{IfSome}
 use Rattle.dep_manager.specs.KeptAssemblies.{IsRightBy}
+use Rattle.dep_manager.specs.ServedCalls.{Serves}
 use Rattle.book_trees.specs.xds_history.Setting.{setting_of}
 use Rattle.std.specs.List.Sorted.{IsStrictlySortedBy}
 use Rattle.xc_keys.specs.Keys.{key_cmp}
@@ -15,6 +17,8 @@ returns-clause-at c = record {
   told_are = c.in_ok-streams.ensures.told ∙ sym c.new-5.ensures;
   rising = subst (IsStrictlySortedBy key_cmp) (sym c.new-5.ensures) none_rises;
   right = subst (IsRightBy c.args.boot.authorities c.new-3.result) (sym c.in_ok-deps.ensures.new) tt;
+  serves = subst (λ d. IfSome d.last (Serves [])) (sym c.in_ok-deps.ensures.new) tt;
+  made = λ driven. absurd (cc driven);
 }
 
 pub returns-clause-shown : goal.returns-clause-shown

@@ -1,6 +1,6 @@
-use Rattle.std.proofs.Common.{refl, sym, ◌∙◌}
+use Rattle.std.proofs.Common.{refl, sym, ◌∙◌, subst}
 use Rattle.driver_step.specs.book_streams.StreamsLaws.{came_with}
-use Rattle.book_driver.specs.WatcherKept.{assembly_with, setting_by}
+use Rattle.book_driver.specs.WatcherKept.{IsTimely, assembly_with, setting_by}
 use Rattle.book_driver.proofs.WatcherLemmas.{none_there, only_at, only_by}
 use Rattle.book_driver.proofs.watcher.Watcher.renew.Goals as goal
 
@@ -23,9 +23,9 @@ assemble-requires-clause-changed g c = c.in_ok-heard.ensures.changed c.requires.
 
 pub ask-requires : goal.ask-requires
 ask-requires g c = record {
-  awaits = λ none. c.in_ok-outcome.ensures.known (none_there c.in_ok-outcome.outcome.missing (sym c.is_some.ensures ∙ none));
-  stays = c.in_ok-outcome.ensures.stays;
-  told = (c.in_ok-outcome.ensures.reached (setting_by c.args.self.now) c.requires.at.past (came_with c.args.event.now c.in_ok-heard.heard.verdict c.in_ok-heard.heard.refused) c.args.now
+  awaits = λ none. c.in_ok-outcome.ensures.assembled.known (none_there c.in_ok-outcome.outcome.missing (sym c.is_some.ensures ∙ none));
+  stays = c.in_ok-outcome.ensures.assembled.stays;
+  told = (c.in_ok-outcome.ensures.assembled.reached (setting_by c.args.self.now) c.requires.at.past (came_with c.args.event.now c.in_ok-heard.heard.verdict c.in_ok-heard.heard.refused) c.args.now
       (c.in_ok-heard.ensures.heard (setting_by c.args.self.now) c.requires.at.past c.requires.at.at)).told_are;
 }
 
@@ -33,8 +33,9 @@ pub returns-clause-step : goal.returns-clause-step
 returns-clause-step g c s past at timely =
     let came = came_with c.args.event.now c.in_ok-heard.heard.verdict c.in_ok-heard.heard.refused in
     let by = c.in_ok-heard.ensures.heard s past at in
-    let reached = c.in_ok-outcome.ensures.reached s past came c.args.now by in
-    let is = c.in_ok-outcome.ensures.assembly s past came c.args.now by timely in
+    let reached = c.in_ok-outcome.ensures.assembled.reached s past came c.args.now by in
+    let heard_timely = subst (λ shown. IsTimely s past c.args.event.now c.args.now c.args.calls shown) (sym c.in_ok-heard.ensures.shown) timely in
+    let is = c.in_ok-outcome.ensures.assembled.assembly s past came c.args.now by heard_timely in
     let a = assembly_with s past c.in_ok-outcome.outcome.reached c.in_ok-outcome.outcome.missing c.in_ok-outcome.outcome.config in
     record {
       told = c.in_ok-heard.ensures.told s past at;
@@ -43,5 +44,5 @@ returns-clause-step g c s past at timely =
       sent_are = c.in_ok-sent.ensures.sent s past came a reached refl;
       kept = λ line number. c.in_ok-sent.ensures.kept s past line c.args.event.now
           (record { verdict = c.in_ok-heard.heard.verdict; sent = c.in_ok-sent.sent; missing = c.in_ok-outcome.outcome.missing; snapshot = number; refused = c.in_ok-heard.heard.refused })
-          a reached is refl timely.now_is refl;
+          a reached (c.in_ok-outcome.ensures.assembled.serves s past came c.args.now by heard_timely) is refl timely.now_is refl;
     }

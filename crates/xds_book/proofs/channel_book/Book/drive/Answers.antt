@@ -36,8 +36,10 @@ returns-in_err-stepped-clause-still g c =
     let past = c.self.inside.journal.entries in
     let going = rw (← c.self.view_is) at c.requires.goes_on in
     let ready = c.self.invariant.ready going in
-    let names = c.in_ok-references.ensures g.J.Job.archive s past c.self.inside.driver.subscriptions.last c.self.invariant.book.right ready.calls_are ready.driver_is.subscribed.references_are in
-    λ report still. still_steps s past c.in_ok-references.references c.args.event c.self.inside.driver c.args.steps.now c.step.new.steps ready.driver_is names c.step.ensures.still report (rw (← c.self.view_is) at still)
+    let called = c.call_refs-calls.ensures g.J.Job.archive s past c.self.invariant.book.right ready.calls_are in
+    let latest = c.latest_number-latest.ensures g.J.Job.archive (pages s past) ready.calls_are in
+    let due = due_at g.J.Job.archive g.J.Job.boot g.J.Job.target past c.call_refs-calls.result c.latest_number-latest.result c.self.inside.calls c.self.inside.turns c.self.inside.driver c.self.invariant.book.listener c.self.invariant.book.right ready called latest in
+    λ report still. still_steps s past c.args.event c.args.steps.now c.step.new.steps (λ repeat. c.step.ensures.still s past due repeat) report (rw (← c.self.view_is) at still)
 
 pub returns-in_err-reply-clause-still : goal.returns-in_err-reply-clause-still
 returns-in_err-reply-clause-still g c =
@@ -45,8 +47,10 @@ returns-in_err-reply-clause-still g c =
     let past = c.self.inside.journal.entries in
     let going = rw (← c.self.view_is) at c.requires.goes_on in
     let ready = c.self.invariant.ready going in
-    let names = c.in_ok-references.ensures g.J.Job.archive s past c.self.inside.driver.subscriptions.last c.self.invariant.book.right ready.calls_are ready.driver_is.subscribed.references_are in
-    λ report still. still_steps s past c.in_ok-references.references c.args.event c.self.inside.driver c.args.steps.now c.step.new.steps ready.driver_is names c.step.ensures.still report (rw (← c.self.view_is) at still)
+    let called = c.call_refs-calls.ensures g.J.Job.archive s past c.self.invariant.book.right ready.calls_are in
+    let latest = c.latest_number-latest.ensures g.J.Job.archive (pages s past) ready.calls_are in
+    let due = due_at g.J.Job.archive g.J.Job.boot g.J.Job.target past c.call_refs-calls.result c.latest_number-latest.result c.self.inside.calls c.self.inside.turns c.self.inside.driver c.self.invariant.book.listener c.self.invariant.book.right ready called latest in
+    λ report still. still_steps s past c.args.event c.args.steps.now c.step.new.steps (λ repeat. c.step.ensures.still s past due repeat) report (rw (← c.self.view_is) at still)
 
 pub store-requires-after_bounds : goal.store-requires-after_bounds
 store-requires-after_bounds g c κs within =
@@ -54,9 +58,9 @@ store-requires-after_bounds g c κs within =
     let past = c.self.inside.journal.entries in
     let going = rw (← c.self.view_is) at c.requires.goes_on in
     let ready = c.self.invariant.ready going in
-    let names = c.in_ok-references.ensures g.J.Job.archive s past c.self.inside.driver.subscriptions.last c.self.invariant.book.right ready.calls_are ready.driver_is.subscribed.references_are in
+    let called = c.call_refs-calls.ensures g.J.Job.archive s past c.self.invariant.book.right ready.calls_are in
     let latest = c.latest_number-latest.ensures g.J.Job.archive (pages s past) ready.calls_are in
-    let due = due_at g.J.Job.archive g.J.Job.boot g.J.Job.target past c.in_ok-references.references c.latest_number-latest.result c.self.inside.calls c.self.inside.turns c.self.inside.driver c.self.invariant.book.listener c.self.invariant.book.right ready names latest in
+    let due = due_at g.J.Job.archive g.J.Job.boot g.J.Job.target past c.call_refs-calls.result c.latest_number-latest.result c.self.inside.calls c.self.inside.turns c.self.inside.driver c.self.invariant.book.listener c.self.invariant.book.right ready called latest in
     let at = c.in_ok-stepped.ensures.step s past due in
     subst (λ (p : Option Published). IfSome p IsComplete) (sym c.in_ok-reply.ensures.published) (complete s c.args.event past c.step.new.self.trees.config c.in_ok-stepped.stepped.published at.published)
 
@@ -66,8 +70,10 @@ returns-in_err-ticket-clause-still g c =
     let past = c.self.inside.journal.entries in
     let going = rw (← c.self.view_is) at c.requires.goes_on in
     let ready = c.self.invariant.ready going in
-    let names = c.in_ok-references.ensures g.J.Job.archive s past c.self.inside.driver.subscriptions.last c.self.invariant.book.right ready.calls_are ready.driver_is.subscribed.references_are in
-    λ report still. still_steps s past c.in_ok-references.references c.args.event c.self.inside.driver c.args.steps.now c.step.new.steps ready.driver_is names c.step.ensures.still report (rw (← c.self.view_is) at still)
+    let called = c.call_refs-calls.ensures g.J.Job.archive s past c.self.invariant.book.right ready.calls_are in
+    let latest = c.latest_number-latest.ensures g.J.Job.archive (pages s past) ready.calls_are in
+    let due = due_at g.J.Job.archive g.J.Job.boot g.J.Job.target past c.call_refs-calls.result c.latest_number-latest.result c.self.inside.calls c.self.inside.turns c.self.inside.driver c.self.invariant.book.listener c.self.invariant.book.right ready called latest in
+    λ report still. still_steps s past c.args.event c.args.steps.now c.step.new.steps (λ repeat. c.step.ensures.still s past due repeat) report (rw (← c.self.view_is) at still)
 
 pub returns-in_err-add_to_both-clause-still : goal.returns-in_err-add_to_both-clause-still
 returns-in_err-add_to_both-clause-still g c =
@@ -75,8 +81,10 @@ returns-in_err-add_to_both-clause-still g c =
     let past = c.self.inside.journal.entries in
     let going = rw (← c.self.view_is) at c.requires.goes_on in
     let ready = c.self.invariant.ready going in
-    let names = c.in_ok-references.ensures g.J.Job.archive s past c.self.inside.driver.subscriptions.last c.self.invariant.book.right ready.calls_are ready.driver_is.subscribed.references_are in
-    λ report still. still_steps s past c.in_ok-references.references c.args.event c.self.inside.driver c.args.steps.now c.step.new.steps ready.driver_is names c.step.ensures.still report (rw (← c.self.view_is) at still)
+    let called = c.call_refs-calls.ensures g.J.Job.archive s past c.self.invariant.book.right ready.calls_are in
+    let latest = c.latest_number-latest.ensures g.J.Job.archive (pages s past) ready.calls_are in
+    let due = due_at g.J.Job.archive g.J.Job.boot g.J.Job.target past c.call_refs-calls.result c.latest_number-latest.result c.self.inside.calls c.self.inside.turns c.self.inside.driver c.self.invariant.book.listener c.self.invariant.book.right ready called latest in
+    λ report still. still_steps s past c.args.event c.args.steps.now c.step.new.steps (λ repeat. c.step.ensures.still s past due repeat) report (rw (← c.self.view_is) at still)
 
 pub invariant_of-self-then-is_err : goal.invariant_of-self-then-is_err
 invariant_of-self-then-is_err g c =
@@ -91,8 +99,10 @@ returns-then-is_err-clause-still g c =
     let past = c.self.inside.journal.entries in
     let going = rw (← c.self.view_is) at c.requires.goes_on in
     let ready = c.self.invariant.ready going in
-    let names = c.in_ok-references.ensures g.J.Job.archive s past c.self.inside.driver.subscriptions.last c.self.invariant.book.right ready.calls_are ready.driver_is.subscribed.references_are in
-    λ report still. still_steps s past c.in_ok-references.references c.args.event c.self.inside.driver c.args.steps.now c.step.new.steps ready.driver_is names c.step.ensures.still report (rw (← c.self.view_is) at still)
+    let called = c.call_refs-calls.ensures g.J.Job.archive s past c.self.invariant.book.right ready.calls_are in
+    let latest = c.latest_number-latest.ensures g.J.Job.archive (pages s past) ready.calls_are in
+    let due = due_at g.J.Job.archive g.J.Job.boot g.J.Job.target past c.call_refs-calls.result c.latest_number-latest.result c.self.inside.calls c.self.inside.turns c.self.inside.driver c.self.invariant.book.listener c.self.invariant.book.right ready called latest in
+    λ report still. still_steps s past c.args.event c.args.steps.now c.step.new.steps (λ repeat. c.step.ensures.still s past due repeat) report (rw (← c.self.view_is) at still)
 
 pub invariant_of-self-2 : goal.invariant_of-self-2
 invariant_of-self-2 g c =
@@ -100,9 +110,9 @@ invariant_of-self-2 g c =
     let past = c.self.inside.journal.entries in
     let going = rw (← c.self.view_is) at c.requires.goes_on in
     let ready = c.self.invariant.ready going in
-    let names = c.in_ok-references.ensures g.J.Job.archive s past c.self.inside.driver.subscriptions.last c.self.invariant.book.right ready.calls_are ready.driver_is.subscribed.references_are in
+    let called = c.call_refs-calls.ensures g.J.Job.archive s past c.self.invariant.book.right ready.calls_are in
     let latest = c.latest_number-latest.ensures g.J.Job.archive (pages s past) ready.calls_are in
-    let due = due_at g.J.Job.archive g.J.Job.boot g.J.Job.target past c.in_ok-references.references c.latest_number-latest.result c.self.inside.calls c.self.inside.turns c.self.inside.driver c.self.invariant.book.listener c.self.invariant.book.right ready names latest in
+    let due = due_at g.J.Job.archive g.J.Job.boot g.J.Job.target past c.call_refs-calls.result c.latest_number-latest.result c.self.inside.calls c.self.inside.turns c.self.inside.driver c.self.invariant.book.listener c.self.invariant.book.right ready called latest in
     let at = c.in_ok-stepped.ensures.step s past due in
     let actor : c.lane.inside.actor ≡ 0 = rw (← c.lane.view_is) at c.requires.driver in
     let get = rw (← c.self.view_is, ← c.lane.view_is) at c.requires.counted in
@@ -133,9 +143,9 @@ returns-clause-entry g c =
     let past = c.self.inside.journal.entries in
     let going = rw (← c.self.view_is) at c.requires.goes_on in
     let ready = c.self.invariant.ready going in
-    let names = c.in_ok-references.ensures g.J.Job.archive s past c.self.inside.driver.subscriptions.last c.self.invariant.book.right ready.calls_are ready.driver_is.subscribed.references_are in
+    let called = c.call_refs-calls.ensures g.J.Job.archive s past c.self.invariant.book.right ready.calls_are in
     let latest = c.latest_number-latest.ensures g.J.Job.archive (pages s past) ready.calls_are in
-    let due = due_at g.J.Job.archive g.J.Job.boot g.J.Job.target past c.in_ok-references.references c.latest_number-latest.result c.self.inside.calls c.self.inside.turns c.self.inside.driver c.self.invariant.book.listener c.self.invariant.book.right ready names latest in
+    let due = due_at g.J.Job.archive g.J.Job.boot g.J.Job.target past c.call_refs-calls.result c.latest_number-latest.result c.self.inside.calls c.self.inside.turns c.self.inside.driver c.self.invariant.book.listener c.self.invariant.book.right ready called latest in
     let at = c.in_ok-stepped.ensures.step s past due in
     let view = view_of c.self.inside.journal c.self.inside.calls.tickets c.self.inside.is_spent in
     let new = view_of c.add_entry.new.journal c.publish.new.calls.tickets false in
@@ -150,8 +160,10 @@ returns-clause-still g c =
     let past = c.self.inside.journal.entries in
     let going = rw (← c.self.view_is) at c.requires.goes_on in
     let ready = c.self.invariant.ready going in
-    let names = c.in_ok-references.ensures g.J.Job.archive s past c.self.inside.driver.subscriptions.last c.self.invariant.book.right ready.calls_are ready.driver_is.subscribed.references_are in
-    λ report still. still_steps s past c.in_ok-references.references c.args.event c.self.inside.driver c.args.steps.now c.step.new.steps ready.driver_is names c.step.ensures.still report (rw (← c.self.view_is) at still)
+    let called = c.call_refs-calls.ensures g.J.Job.archive s past c.self.invariant.book.right ready.calls_are in
+    let latest = c.latest_number-latest.ensures g.J.Job.archive (pages s past) ready.calls_are in
+    let due = due_at g.J.Job.archive g.J.Job.boot g.J.Job.target past c.call_refs-calls.result c.latest_number-latest.result c.self.inside.calls c.self.inside.turns c.self.inside.driver c.self.invariant.book.listener c.self.invariant.book.right ready called latest in
+    λ report still. still_steps s past c.args.event c.args.steps.now c.step.new.steps (λ repeat. c.step.ensures.still s past due repeat) report (rw (← c.self.view_is) at still)
 
 pub returns-clause-tickets : goal.returns-clause-tickets
 returns-clause-tickets g c =
