@@ -87,14 +87,3 @@ fn what_was_made_first_serves_calls_that_refer_to_nothing(rt: HostRuntime) -> Re
     assert!(rt; updates.serves);
     Ok(())
 }
-
-#[test]
-fn an_update_in_place_reaches_the_same(rt: HostRuntime) -> Result<(), Fail> {
-    let updates = first_updates(rt.alloc())?;
-    let Some(next) = updates.next else {
-        return Err(Fail::from("an update in place follows a first one"));
-    };
-    assert_eq!(rt; next.reached.as_slice().len(), 1);
-    assert!(rt; next.stays);
-    Ok(())
-}
